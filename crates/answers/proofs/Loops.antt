@@ -1,0 +1,39 @@
+-- A loop over a run of checks: what is left at i decides the whole run. Assumes nothing.
+use Prim.Native.Nat.{ℕ, zero, suc, _+_, _-_, _<_, _≤_}
+use mathlib.Core.Path.{_≡_, _∙_, sym}
+use mathlib.Core.List.{List}
+use native.Mathlib.Numerals.{add-one}
+use native.Mathlib.Omega.{arith}
+use Rattle.answers.specs.declared.Refusal.{Refusal}
+use Rattle.answers.specs.declared.Outcome.{Outcome}
+use Rattle.answers.specs.declared.Outcome.the-variants.{Passed, Refused}
+use Rattle.answers.specs.Checks.{Check, first, run, Decides}
+use Rattle.answers.proofs.Laws.{first-past, first-stops}
+
+-- a run that is not over starts with the checks at i
+run-at : (f : ℕ → List Check) (i n : ℕ) → i < n → n - i ≡ suc (n - (i + 1))
+run-at f i n h = omega arith
+
+pub record Remaining (f : ℕ → List Check) (i n : ℕ) : Type 0 where
+  pub within : i ≤ n
+  pub same : first (run f 0 n) ≡ first (run f i (n - i))
+
+pub remaining-start : (f : ℕ → List Check) (n : ℕ) → Remaining f 0 n
+remaining-start f n = record { within = omega arith; same = let e : n - 0 ≡ n = omega arith in rw e }
+
+pub remaining-step : {f : ℕ → List Check} {i n : ℕ} {o : Outcome} → Remaining f i n → i < n → Decides (f i) o → o ≡ Passed → Remaining f (i + 1) n
+unfolding run
+remaining-step {f} {i} {n} l h d e =
+    record {
+      within = omega arith;
+      same = l .same ∙ rw (run-at f i n h, add-one) (first-past (f i) _ (sym (d .is) ∙ e));
+    }
+
+pub remaining-stop : {f : ℕ → List Check} {i n : ℕ} {o : Outcome} {r : Refusal} → Remaining f i n → i < n → Decides (f i) o → o ≡ Refused r → Decides (run f 0 n) o
+unfolding run
+remaining-stop {f} {i} {n} l h d e =
+    record { is = e ∙ sym (l .same ∙ rw (run-at f i n h) (first-stops (f i) _ (sym (d .is) ∙ e))) }
+
+pub remaining-none : {f : ℕ → List Check} {i n : ℕ} → Remaining f i n → n ≤ i → Decides (run f 0 n) Passed
+unfolding first run
+remaining-none {f} {i} {n} l h = record { is = let k : n - i ≡ 0 = omega arith in sym (l .same ∙ rw k) }

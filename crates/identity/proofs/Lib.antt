@@ -1,0 +1,9 @@
+pub mod Tests
+pub mod Scalar
+pub mod VisibleText
+pub mod Rfc
+pub mod Unicode
+pub mod Utf8
+pub mod Valid
+pub mod Order
+pub mod Text

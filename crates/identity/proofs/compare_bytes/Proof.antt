@@ -1,0 +1,33 @@
+-- `identity::compare_bytes` meets its contract. The loop's invariant: the first i bytes are the same, so the rest decides.
+use Prim.Native.Nat.{_-_}
+use lib.ListN.{length}
+use borrow.Author.Needs.{needs}
+use Rattle.identity.proofs.Order.{Tied, tied-start, order-laws}
+use Rattle.identity.proofs.compare_bytes.Statement.{statement}
+use Rattle.identity.proofs.compare_bytes.Tie as tie
+
+abbrev Inv-loop : tie.InvT-loop
+Inv-loop left right i₀ i = Tied left right i
+
+abbrev μ-loop : tie.MeasureT-loop
+μ-loop left right i₀ i = length left - i
+
+pub compare-bytes-spec : {M : Type 1} → statement M
+compare-bytes-spec =
+    tie.close
+    (tie.spec
+    Inv-loop
+    μ-loop
+    (λ c. tied-start _ _)
+    (λ c. search order-laws)
+    (λ c. search needs)
+    (λ c. search needs)
+    (λ c. search order-laws)
+    (λ c. search needs)
+    (λ c. search needs)
+    (λ c. search order-laws)
+    (λ c. search needs)
+    (λ c. search needs)
+    (λ c. search order-laws)
+    (λ c. search order-laws)
+    (λ c. search order-laws))

@@ -1,0 +1,24 @@
+-- `identity::four_bytes` meets its contract.
+use borrow.Author.Needs.{needs}
+use Rattle.identity.proofs.four_bytes.Statement.{statement}
+use Rattle.identity.proofs.four_bytes.Tie as tie
+
+pub four-bytes-spec : {M : Type 1} → statement M
+four-bytes-spec =
+    tie.close
+    (tie.spec
+    (λ c κs. search needs)
+    (λ c κs. search needs)
+    (λ c κs. search needs)
+    (λ c κs. search needs)
+    (λ c. search needs)
+    (λ c κs. search needs)
+    (λ c. search needs)
+    (λ c. search needs)
+    (λ c κs. search needs)
+    (λ c. search needs)
+    (λ c. search needs)
+    (λ c κs. search needs)
+    (λ c. search needs)
+    (λ c κs. search needs)
+    (λ c. cc))

@@ -1,0 +1,8 @@
+pub mod Choice
+pub mod Utf8
+pub mod Rfc3629
+pub mod Unicode
+pub mod Identity
+pub mod Order
+pub mod Text
+pub mod Scan

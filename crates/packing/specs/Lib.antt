@@ -1,0 +1,4 @@
+pub mod Shape
+pub mod Clean
+pub mod Packing
+pub mod Starts

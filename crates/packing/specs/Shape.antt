@@ -1,0 +1,33 @@
+-- What the packing rules ask of a table's layout: how many bytes it uses, and which bytes a presence bit governs. Assumes nothing.
+use Prim.Native.Nat.{ℕ, zero, suc, _+_}
+use mathlib.Core.Bool.{Bool, true, false, cond}
+use mathlib.Core.List.{List, [], _∷_}
+use lib.Dec.{eqb}
+use lib.ListN.{getD, length}
+use Rattle.schema.specs.Layout.{Field, W, D, W-if, bytes, Layout, plain, layouts}
+
+-- the layout of a table; past the last table no byte is used
+abbrev pub layoutOf : ℕ → Layout
+layoutOf t = getD layouts t (plain [])
+
+-- the end of the fields that start at byte o
+abbrev pub endFrom : ℕ → List Field → ℕ
+endFrom o [] = o
+endFrom o (f ∷ fs) = endFrom (o + bytes f) fs
+
+abbrev pub used : Layout → ℕ
+used l = endFrom 4 (l .fields)
+
+abbrev pub governs : ℕ → Field → Bool
+governs k W = false
+governs k D = false
+governs k (W-if j) = eqb j k
+
+-- where the fields that bit k governs start, the fields from byte o on, and how many bytes they have; 0 and 0 where there is none
+abbrev pub governedOffset : ℕ → ℕ → List Field → ℕ
+governedOffset k o [] = 0
+governedOffset k o (f ∷ fs) = cond (governs k f) o (governedOffset k (o + bytes f) fs)
+
+abbrev pub governedBytes : ℕ → List Field → ℕ
+governedBytes k [] = 0
+governedBytes k (f ∷ fs) = cond (governs k f) (bytes f) 0 + governedBytes k fs

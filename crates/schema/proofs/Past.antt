@@ -1,0 +1,27 @@
+-- A record past the pack is the empty row. Assumes nothing.
+use Prim.Native.Nat.{ℕ, zero, suc, _+_, _*_, _≤_}
+use mathlib.Core.Path.{_≡_, refl, sym}
+use mathlib.Core.List.{List}
+use native.Mathlib.Omega.{arith}
+use lib.ListN.{length, getD, List·getD-eq-default}
+use Rattle.schema.specs.Number.{number}
+use Rattle.schema.specs.Layout.{Layout, bytes, offset, fieldAt}
+use Rattle.schema.specs.Rows.{byteOf, field, row, empty}
+
+byte-past : (p : List ℕ) (o : ℕ) → length p ≤ o → getD p o 0 ≡ 0
+byte-past p o h = List·getD-eq-default p 0 h
+
+number-past : (p : List ℕ) (k o : ℕ) → length p ≤ o → number k p o ≡ 0
+unfolding number
+number-past p zero o h = refl
+number-past p (suc k) o h =
+    let l : length p ≤ o + k = omega arith in
+    rw (number-past p k o h, byte-past p (o + k) l)
+
+module _ {A : Type 0} (of : (ℕ → ℕ) → ℕ → ℕ → A) (l : Layout) (p : List ℕ) (n : ℕ) (h : length p ≤ n * 64) where
+  pub row-past : empty of ≡ row of l p n
+  row-past e =
+      of
+      (λ k. sym (number-past p (bytes (fieldAt l k)) (n * 64 + offset l k) (omega arith)) e)
+      (sym (byte-past p (n * 64 + 1) (omega arith)) e)
+      (sym (byte-past p (n * 64 + 2) (omega arith)) e)

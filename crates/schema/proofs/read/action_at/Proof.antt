@@ -1,0 +1,42 @@
+-- `schema::read::action_at` meets its contract. Assumes nothing.
+use Rattle.schema.proofs.Past.{row-past}
+use Rattle.schema.specs.Layout as layout
+use denote.Ref.{now}
+use lib.ListN.{length}
+use native.Mathlib.Omega.{arith}
+use mathlib.Core.Path.{_∙_}
+use Prim.Native.Nat.{_*_, _≤_}
+use Rattle.schema.specs.Rows.{actionOf, actionAt}
+use borrow.Author.Needs.{needs}
+use Rattle.schema.proofs.read.action_at.Statement.{statement}
+use Rattle.schema.proofs.read.action_at.Tie as tie
+
+returns : tie.Need-returns
+unfolding actionAt
+returns c =
+    let a = c .before .before .before .args in
+    let h : length (now (a .p)) ≤ a .n * 64 = omega arith in
+    c .empty .ensures ∙ row-past actionOf layout.actions (now (a .p)) (a .n) h
+
+returns-2 : tie.Need-returns-2
+unfolding actionAt
+returns-2 c = simp (c .range-of .ensures, c .before .timing-of .ensures, c .before .before .long-of .ensures, c .before .before .before .bit2 .ensures, c .before .before .before .before .byte-of2 .ensures, c .before .before .before .before .before .maybe-binding .ensures, c .before .before .before .before .before .before .word-of3 .ensures, c .before .before .before .before .before .before .before .bit .ensures, c .before .before .before .before .before .before .before .before .word-of2 .ensures, c .before .before .before .before .before .before .before .before .before .word-of .ensures, c .before .before .before .before .before .before .before .before .before .before .byte-of .ensures)
+
+pub action-at-spec : {M : Type 1} → statement M
+action-at-spec =
+    tie.close
+    (tie.spec
+    (λ c κs. search needs)
+    returns
+    (λ c κs. search needs)
+    (λ c κs. search needs)
+    (λ c κs. search needs)
+    (λ c κs. search needs)
+    (λ c κs. search needs)
+    (λ c κs. search needs)
+    (λ c κs. search needs)
+    (λ c κs. search needs)
+    (λ c κs. search needs)
+    (λ c κs. search needs)
+    (λ c κs. search needs)
+    returns-2)

@@ -1,0 +1,11 @@
+-- `schema::read::range_of` meets its contract. Assumes nothing.
+use borrow.Author.Needs.{needs}
+use Rattle.schema.proofs.read.range_of.Statement.{statement}
+use Rattle.schema.proofs.read.range_of.Tie as tie
+
+pub range-of-spec : {M : Type 1} → statement M
+range-of-spec = tie.close (tie.spec
+    (λ c κs. search needs)
+    (λ c. search needs)
+    (λ c κs. search needs)
+    (λ c. simp (c .word-of2 .ensures, c .before .word-of .ensures)))

@@ -1,0 +1,167 @@
+// Readers of the list tables 8 to 22, by slice and record number. A record past the pack is the empty row.
+ghost use mathlib.Core.Path.{_≡_};
+ghost use Rattle.schema.specs.Rows.{indexAt, levelAt, startupAt, lifecycleAt};
+use crate::index::ActionIndex;
+use crate::index::ModeIndex;
+use crate::index::PortIndex;
+use crate::index::ReactionIndex;
+use crate::index::ScopeIndex;
+use crate::lists::LevelReactionImage;
+use crate::lists::LifecycleReactionImage;
+use crate::lists::ReactionAction;
+use crate::lists::ReactionEffectPort;
+use crate::lists::ReactionMode;
+use crate::lists::ReactionTrigger;
+use crate::lists::ReactionUsePort;
+use crate::lists::ScopeDescendant;
+use crate::lists::ScopeLogicalAction;
+use crate::lists::ScopeResetReaction;
+use crate::lists::ScopeShutdownReaction;
+use crate::lists::ScopeStartupReaction;
+use crate::lists::ScopeTimerStartup;
+use crate::lists::ShutdownAction;
+use crate::lists::ShutdownReaction;
+use crate::lists::StartupAction;
+use crate::lists::TimerStartupAction;
+use crate::lists::TimerStartupImage;
+use crate::read::long_of;
+use crate::read::word_of;
+
+// One index.
+fn index_at(p: &[u8], n: usize) -> u32
+    ensures { λ r. ⌜ r ≡ indexAt (now (p .entry)) n ⌝ }
+{
+    if p.len() / 64 < n {
+        return 0;
+    }
+    word_of(p, n, 4)
+}
+
+pub fn level_at(p: &[u8], n: usize) -> LevelReactionImage
+    ensures { λ r. ⌜ r ≡ levelAt (now (p .entry)) n ⌝ }
+{
+    if p.len() / 64 < n {
+        return LevelReactionImage::empty();
+    }
+    LevelReactionImage {
+        level: word_of(p, n, 4),
+        reaction: ReactionIndex(word_of(p, n, 8)),
+    }
+}
+
+pub fn startup_at(p: &[u8], n: usize) -> TimerStartupImage
+    ensures { λ r. ⌜ r ≡ startupAt (now (p .entry)) n ⌝ }
+{
+    if p.len() / 64 < n {
+        return TimerStartupImage::empty();
+    }
+    TimerStartupImage {
+        action: ActionIndex(word_of(p, n, 4)),
+        logical_delay_nanos: long_of(p, n, 8),
+    }
+}
+
+pub fn lifecycle_at(p: &[u8], n: usize) -> LifecycleReactionImage
+    ensures { λ r. ⌜ r ≡ lifecycleAt (now (p .entry)) n ⌝ }
+{
+    if p.len() / 64 < n {
+        return LifecycleReactionImage::empty();
+    }
+    LifecycleReactionImage {
+        reaction: LevelReactionImage {
+            level: word_of(p, n, 4),
+            reaction: ReactionIndex(word_of(p, n, 8)),
+        },
+        action: ActionIndex(word_of(p, n, 12)),
+    }
+}
+
+pub fn reaction_trigger_at(p: &[u8], n: usize) -> ReactionTrigger
+    ensures { λ r. ⌜ r .0 ≡ levelAt (now (p .entry)) n ⌝ }
+{
+    ReactionTrigger(level_at(p, n))
+}
+
+pub fn reaction_use_port_at(p: &[u8], n: usize) -> ReactionUsePort
+    ensures { λ r. ⌜ r .0 .0 ≡ indexAt (now (p .entry)) n ⌝ }
+{
+    ReactionUsePort(PortIndex(index_at(p, n)))
+}
+
+pub fn reaction_effect_port_at(p: &[u8], n: usize) -> ReactionEffectPort
+    ensures { λ r. ⌜ r .0 .0 ≡ indexAt (now (p .entry)) n ⌝ }
+{
+    ReactionEffectPort(PortIndex(index_at(p, n)))
+}
+
+pub fn reaction_action_at(p: &[u8], n: usize) -> ReactionAction
+    ensures { λ r. ⌜ r .0 .0 ≡ indexAt (now (p .entry)) n ⌝ }
+{
+    ReactionAction(ActionIndex(index_at(p, n)))
+}
+
+pub fn reaction_mode_at(p: &[u8], n: usize) -> ReactionMode
+    ensures { λ r. ⌜ r .0 .0 ≡ indexAt (now (p .entry)) n ⌝ }
+{
+    ReactionMode(ModeIndex(index_at(p, n)))
+}
+
+pub fn scope_descendant_at(p: &[u8], n: usize) -> ScopeDescendant
+    ensures { λ r. ⌜ r .0 .0 ≡ indexAt (now (p .entry)) n ⌝ }
+{
+    ScopeDescendant(ScopeIndex(index_at(p, n)))
+}
+
+pub fn scope_logical_action_at(p: &[u8], n: usize) -> ScopeLogicalAction
+    ensures { λ r. ⌜ r .0 .0 ≡ indexAt (now (p .entry)) n ⌝ }
+{
+    ScopeLogicalAction(ActionIndex(index_at(p, n)))
+}
+
+pub fn scope_timer_startup_at(p: &[u8], n: usize) -> ScopeTimerStartup
+    ensures { λ r. ⌜ r .0 ≡ startupAt (now (p .entry)) n ⌝ }
+{
+    ScopeTimerStartup(startup_at(p, n))
+}
+
+pub fn scope_reset_reaction_at(p: &[u8], n: usize) -> ScopeResetReaction
+    ensures { λ r. ⌜ r .0 ≡ levelAt (now (p .entry)) n ⌝ }
+{
+    ScopeResetReaction(level_at(p, n))
+}
+
+pub fn scope_startup_reaction_at(p: &[u8], n: usize) -> ScopeStartupReaction
+    ensures { λ r. ⌜ r .0 ≡ lifecycleAt (now (p .entry)) n ⌝ }
+{
+    ScopeStartupReaction(lifecycle_at(p, n))
+}
+
+pub fn scope_shutdown_reaction_at(p: &[u8], n: usize) -> ScopeShutdownReaction
+    ensures { λ r. ⌜ r .0 ≡ lifecycleAt (now (p .entry)) n ⌝ }
+{
+    ScopeShutdownReaction(lifecycle_at(p, n))
+}
+
+pub fn startup_action_at(p: &[u8], n: usize) -> StartupAction
+    ensures { λ r. ⌜ r .0 ≡ startupAt (now (p .entry)) n ⌝ }
+{
+    StartupAction(startup_at(p, n))
+}
+
+pub fn timer_startup_action_at(p: &[u8], n: usize) -> TimerStartupAction
+    ensures { λ r. ⌜ r .0 ≡ startupAt (now (p .entry)) n ⌝ }
+{
+    TimerStartupAction(startup_at(p, n))
+}
+
+pub fn shutdown_reaction_at(p: &[u8], n: usize) -> ShutdownReaction
+    ensures { λ r. ⌜ r .0 ≡ lifecycleAt (now (p .entry)) n ⌝ }
+{
+    ShutdownReaction(lifecycle_at(p, n))
+}
+
+pub fn shutdown_action_at(p: &[u8], n: usize) -> ShutdownAction
+    ensures { λ r. ⌜ r .0 .0 ≡ indexAt (now (p .entry)) n ⌝ }
+{
+    ShutdownAction(ActionIndex(index_at(p, n)))
+}

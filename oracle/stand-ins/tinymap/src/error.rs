@@ -1,0 +1,2 @@
+//! Stand-in for error.rs: the name only.
+pub struct TinyMapError;
