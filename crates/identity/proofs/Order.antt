@@ -1,15 +1,14 @@
 -- The order of two texts, byte by byte. Assumes nothing.
-use Prim.Native.Nat.{ℕ, zero, suc, _+_, _<_, _≤_}
-use mathlib.Core.Bool.{Bool, true, false}
+use Prim.Native.Nat.{ℕ, _+_, _<_, _≤_}
 use mathlib.Core.Path.{_≡_, refl, _∙_, sym}
 use mathlib.Core.List.{List, [], _∷_}
 use native.Mathlib.Numerals.{add-one}
 use native.Mathlib.Omega.{arith}
-use lib.IntN.{ℤ, pos, negsuc}
 use lib.Dec.{ltb}
 use lib.ListN.{length, getD, drop, drop-of-length-le}
 use lib.Seq.{drop-cons}
 use borrow.Author.Tests.{ltb-false, lt-ltb, le-ltb}
+use Rattle.identity.specs.declared.ByteOrder.the-variants.{Less, Equal, Greater}
 use Rattle.identity.specs.Order.{compared}
 use Rattle.identity.proofs.Tests.{cases}
 
@@ -20,23 +19,23 @@ pub record Tied (a b : List ℕ) (i : ℕ) : Type 0 where
 pub tied-start : (a b : List ℕ) → Tied a b 0
 tied-start a b = record { same = refl }
 
-pub a-longer : {a b : List ℕ} {i : ℕ} → Tied a b i → i < length a → length b ≤ i → pos 1 ≡ compared a b
+pub a-longer : {a b : List ℕ} {i : ℕ} → Tied a b i → i < length a → length b ≤ i → Greater ≡ compared a b
 unfolding compared
 a-longer {a} {b} {i} t h l = sym (t .same ∙ rw (drop-cons a i 0, drop-of-length-le b l))
 
-pub b-longer : {a b : List ℕ} {i : ℕ} → Tied a b i → length a ≤ i → i < length b → negsuc 0 ≡ compared a b
+pub b-longer : {a b : List ℕ} {i : ℕ} → Tied a b i → length a ≤ i → i < length b → Less ≡ compared a b
 unfolding compared
 b-longer {a} {b} {i} t l h = sym (t .same ∙ rw (drop-cons b i 0, drop-of-length-le a l))
 
-pub both-end : {a b : List ℕ} {i : ℕ} → Tied a b i → length a ≤ i → length b ≤ i → pos 0 ≡ compared a b
+pub both-end : {a b : List ℕ} {i : ℕ} → Tied a b i → length a ≤ i → length b ≤ i → Equal ≡ compared a b
 unfolding compared
 both-end {a} {b} {i} t l h = sym (t .same ∙ rw (drop-of-length-le a l, drop-of-length-le b h))
 
-pub a-below : {a b : List ℕ} {i : ℕ} → Tied a b i → i < length a → i < length b → getD a i 0 < getD b i 0 → negsuc 0 ≡ compared a b
+pub a-below : {a b : List ℕ} {i : ℕ} → Tied a b i → i < length a → i < length b → getD a i 0 < getD b i 0 → Less ≡ compared a b
 unfolding compared
 a-below {a} {b} {i} t l h x = sym (t .same ∙ rw (drop-cons a i 0, drop-cons b i 0, lt-ltb _ _ x))
 
-pub b-below : {a b : List ℕ} {i : ℕ} → Tied a b i → i < length a → i < length b → getD b i 0 ≤ getD a i 0 → getD b i 0 < getD a i 0 → pos 1 ≡ compared a b
+pub b-below : {a b : List ℕ} {i : ℕ} → Tied a b i → i < length a → i < length b → getD b i 0 ≤ getD a i 0 → getD b i 0 < getD a i 0 → Greater ≡ compared a b
 unfolding compared
 b-below {a} {b} {i} t l h y x = sym (t .same ∙ rw (drop-cons a i 0, drop-cons b i 0, le-ltb _ _ y, lt-ltb _ _ x))
 
@@ -47,29 +46,30 @@ tied-step {a} {b} {i} t l h y x =
 
 pub ruleset order-laws = (a-longer, b-longer, both-end, a-below, b-below, tied-step)
 
--- 0 stands for equal texts, and for no others
-pub compared-same : (a : List ℕ) → compared a a ≡ pos 0
+-- Equal stands for equal texts, and for no others
+pub compared-same : (a : List ℕ) → compared a a ≡ Equal
 unfolding compared
 compared-same [] = refl
 compared-same (x ∷ a) = rw (le-ltb x x (omega arith)) (compared-same a)
 
-pub compared-zero : (a b : List ℕ) → compared a b ≡ pos 0 → a ≡ b
+pub compared-equal : (a b : List ℕ) → compared a b ≡ Equal → a ≡ b
 unfolding compared
-compared-zero [] [] e = refl
-compared-zero [] (y ∷ b) e = let z : _≡_ {A = ℕ} 0 1 = cc in absurd (omega arith)
-compared-zero (x ∷ a) [] e = let z : _≡_ {A = ℕ} 0 1 = cc in absurd (omega arith)
-compared-zero (x ∷ a) (y ∷ b) e =
+compared-equal [] [] e = refl
+compared-equal [] (y ∷ b) e = let z : _≡_ {A = ℕ} 0 1 = cc in absurd (omega arith)
+compared-equal (x ∷ a) [] e = let z : _≡_ {A = ℕ} 0 1 = cc in absurd (omega arith)
+compared-equal (x ∷ a) (y ∷ b) e =
     cases (ltb x y)
-    (λ t. absurd (not-zero (sym (rw t at e))))
+    (λ t. absurd (not-less (sym (rw t at e))))
     (λ f. cases (ltb y x)
-    (λ t. absurd (not-one (sym (rw (f, t) at e))))
+    (λ t. absurd (not-greater (sym (rw (f, t) at e))))
     (λ g.
     let l = ltb-false x y f in
     let h = ltb-false y x g in
     let n : x ≡ y = omega arith in
-    rw (n, compared-zero a b (rw (f, g) at e))))
+    rw (n, compared-equal a b (rw (f, g) at e))))
   where
-    not-zero : pos 0 ≡ negsuc 0 → ⊥
-    not-zero q = let z : _≡_ {A = ℕ} 0 1 = cc in omega arith
-    not-one : pos 0 ≡ pos 1 → ⊥
-    not-one q = let z : _≡_ {A = ℕ} 0 1 = cc in omega arith
+    not-less : Equal ≡ Less → ⊥
+    not-less q = let z : _≡_ {A = ℕ} 0 1 = cc in omega arith
+
+    not-greater : Equal ≡ Greater → ⊥
+    not-greater q = let z : _≡_ {A = ℕ} 0 1 = cc in omega arith

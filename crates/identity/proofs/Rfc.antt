@@ -1,21 +1,21 @@
 -- Bytes are UTF-8 exactly when they are the encodings of allowed scalars: the proofs of specs/Rfc3629.antt. Assumes nothing.
-use Prim.Native.Nat.{ℕ, zero, suc, _+_, _*_, _/_, _%_, _-_, _<_, _≤_}
+use Prim.Native.Nat.{ℕ, zero, suc, _+_, _*_, _/_, _%_, _<_, _≤_}
 use mathlib.Core.Bool.{Bool, true, false, _&&_, true≢false}
 use mathlib.Core.Path.{_≡_, refl, _∙_, ap, sym, subst}
 use mathlib.Core.List.{List, [], _∷_, _++_}
 use native.Mathlib.Nat.{zero-add}
 use native.Mathlib.Omega.{arith}
-use lib.Dec.{ltb, leb}
+use lib.Dec.{ltb}
 use lib.ListN.{length, getD, drop, length-drop}
 use borrow.Author.Tests.{ltb-true, ltb-false, leb-true, lt-ltb, le-ltb, le-leb}
 use Rattle.identity.specs.declared.Decoded.{Decoded}
 use Rattle.identity.specs.declared.Decoded.the-variants.{Scalar, Malformed}
 use Rattle.identity.specs.Utf8.{allowed, allAllowed, encode, encodeAll, follows, checked, valueOfTwo, valueOfThree, valueOfFour, scalarAt}
-use Rattle.identity.specs.Utf8.{Scalars, some, none, before, decode, decodeAfter, isSome, utf8}
+use Rattle.identity.specs.Utf8.{Scalars, some, none, before, decode, decodeAfter, isSome}
 use Rattle.identity.specs.Rfc3629.{Encodes, Utf8IsEncoding, DecodeInvertsEncode}
 use Rattle.identity.proofs.Tests.{cases, both, within-in}
 use Rattle.identity.proofs.Scalar.{one-byte, by-two, by-three, by-four, Follows, no-byte}
-use Rattle.identity.proofs.Scalar.{Form, one, two, three, four, malformed, form-at, width-at, decode-at, decode-malformed}
+use Rattle.identity.proofs.Scalar.{Form, one, two, three, four, form-at, width-at, decode-at, decode-malformed}
 
 -- all that is asked of `allowed`
 allowed-max : (v : ℕ) → allowed v ≡ true → v ≤ 0x10FFFF
@@ -48,14 +48,14 @@ is-four : (a b c d : ℕ) (t : List ℕ) → 0xF0 ≤ a → a < 0xF5 → Follows
 is-four a b c d t l h f g k m n =
     sym (by-four (a ∷ b ∷ c ∷ d ∷ t) 0 b c d _ l h refl refl refl (checked-scalar (follows b && (follows c && follows d)) _ _ _ (rw (is-follow b f, is-follow c g) (is-follow d k)) m n))
 
-fol : (v : ℕ) → Follows (0x80 + v % 64)
-fol v = record { low = omega arith; high = omega arith }
+following-byte : (v : ℕ) → Follows (0x80 + v % 64)
+following-byte v = record { low = omega arith; high = omega arith }
 
-low : (x : ℕ) → (0x80 + x % 64) % 64 ≡ x % 64
-low x = omega arith
+low-bits : (x : ℕ) → (0x80 + x % 64) % 64 ≡ x % 64
+low-bits x = omega arith
 
-top : (v : ℕ) → v ≤ 0x10FFFF → (0xF0 + v / 262144) % 8 ≡ v / 262144
-top v m = omega arith
+first-bits : (v : ℕ) → v ≤ 0x10FFFF → (0xF0 + v / 262144) % 8 ≡ v / 262144
+first-bits v m = omega arith
 
 high-two : (v : ℕ) → v / 4096 ≡ v / 262144 * 64 + v / 4096 % 64
 high-two v = omega arith
@@ -66,16 +66,16 @@ low-two v = omega arith
 joined : (v q t x y z : ℕ) → q ≡ t * 64 + x → v ≡ q * 4096 + y * 64 + z → t * 262144 + x * 4096 + y * 64 + z ≡ v
 joined v q t x y z e f = omega arith
 
--- omega takes the three-byte sum whole, and the four-byte one only in steps
-parts-four : (v : ℕ) → v ≤ 0x10FFFF → valueOfFour (0xF0 + v / 262144) (0x80 + v / 4096 % 64) (0x80 + v / 64 % 64) (0x80 + v % 64) ≡ v
-parts-four v m =
-    rw (top v m, low (v / 4096), low (v / 64), low v)
+-- the value of a scalar's four bytes, in the steps that omega takes
+value-four : (v : ℕ) → v ≤ 0x10FFFF → valueOfFour (0xF0 + v / 262144) (0x80 + v / 4096 % 64) (0x80 + v / 64 % 64) (0x80 + v % 64) ≡ v
+value-four v m =
+    rw (first-bits v m, low-bits (v / 4096), low-bits (v / 64), low-bits v)
     (joined v (v / 4096) (v / 262144) (v / 4096 % 64) (v / 64 % 64) (v % 64) (high-two v) (low-two v))
 
--- what the decoder does after a scalar's bytes
-pub past : (v : ℕ) (t : List ℕ) → allowed v ≡ true → decode (encode v ++ t) ≡ before v (decode t)
+-- the bytes of a scalar, and then others, decode to it and theirs
+decode-one : (v : ℕ) (t : List ℕ) → allowed v ≡ true → decode (encode v ++ t) ≡ before v (decode t)
 unfolding encode
-past v t m =
+decode-one v t m =
     cases (ltb v 0x80)
     (λ t1. rw t1 (decode-at (v ∷ t) 0 (omega arith) (is-one v t (ltb-true v 0x80 t1))))
     (λ f1. rw f1
@@ -84,29 +84,29 @@ past v t m =
     let l = ltb-false v 0x80 f1 in
     let h = ltb-true v 0x800 t2 in
     let e : valueOfTwo (0xC0 + v / 64) (0x80 + v % 64) ≡ v = omega arith in
-    rw t2 (decode-at ((0xC0 + v / 64) ∷ (0x80 + v % 64) ∷ t) 0 (omega arith) (is-two _ _ t (omega arith) (omega arith) (fol v) (rw e m) ∙ ap (λ (n : ℕ). Scalar n 2) e)))
+    rw t2 (decode-at ((0xC0 + v / 64) ∷ (0x80 + v % 64) ∷ t) 0 (omega arith) (is-two _ _ t (omega arith) (omega arith) (following-byte v) (rw e m) ∙ ap (λ (n : ℕ). Scalar n 2) e)))
     (λ f2. rw f2
     (cases (ltb v 0x10000)
     (λ t3.
     let l = ltb-false v 0x800 f2 in
     let h = ltb-true v 0x10000 t3 in
     let e : valueOfThree (0xE0 + v / 4096) (0x80 + v / 64 % 64) (0x80 + v % 64) ≡ v = omega arith in
-    rw t3 (decode-at ((0xE0 + v / 4096) ∷ (0x80 + v / 64 % 64) ∷ (0x80 + v % 64) ∷ t) 0 (omega arith) (is-three _ _ _ t (omega arith) (omega arith) (fol (v / 64)) (fol v) (rw e l) (rw e m) ∙ ap (λ (n : ℕ). Scalar n 3) e)))
+    rw t3 (decode-at ((0xE0 + v / 4096) ∷ (0x80 + v / 64 % 64) ∷ (0x80 + v % 64) ∷ t) 0 (omega arith) (is-three _ _ _ t (omega arith) (omega arith) (following-byte (v / 64)) (following-byte v) (rw e l) (rw e m) ∙ ap (λ (n : ℕ). Scalar n 3) e)))
     (λ f3.
     let l = ltb-false v 0x10000 f3 in
-    let e : valueOfFour (0xF0 + v / 262144) (0x80 + v / 4096 % 64) (0x80 + v / 64 % 64) (0x80 + v % 64) ≡ v = parts-four v (allowed-max v m) in
+    let e : valueOfFour (0xF0 + v / 262144) (0x80 + v / 4096 % 64) (0x80 + v / 64 % 64) (0x80 + v % 64) ≡ v = value-four v (allowed-max v m) in
     let k = allowed-max v m in
-    rw f3 (decode-at ((0xF0 + v / 262144) ∷ (0x80 + v / 4096 % 64) ∷ (0x80 + v / 64 % 64) ∷ (0x80 + v % 64) ∷ t) 0 (omega arith) (is-four _ _ _ _ t (omega arith) (omega arith) (fol (v / 4096)) (fol (v / 64)) (fol v) (rw e l) (rw e m) ∙ ap (λ (n : ℕ). Scalar n 4) e)))))))
+    rw f3 (decode-at ((0xF0 + v / 262144) ∷ (0x80 + v / 4096 % 64) ∷ (0x80 + v / 64 % 64) ∷ (0x80 + v % 64) ∷ t) 0 (omega arith) (is-four _ _ _ _ t (omega arith) (omega arith) (following-byte (v / 4096)) (following-byte (v / 64)) (following-byte v) (rw e l) (rw e m) ∙ ap (λ (n : ℕ). Scalar n 4) e)))))))
 
-pub decode-encode : (vs : List ℕ) → allAllowed vs ≡ true → decode (encodeAll vs) ≡ some vs
+decode-encode : (vs : List ℕ) → allAllowed vs ≡ true → decode (encodeAll vs) ≡ some vs
 unfolding encodeAll decodeAfter
 decode-encode [] e = refl
 decode-encode (v ∷ vs) e =
     let h = both (allowed v) (allAllowed vs) e in
-    past v (encodeAll vs) (h .0) ∙ ap (before v) (decode-encode vs (h .1))
+    decode-one v (encodeAll vs) (h .0) ∙ ap (before v) (decode-encode vs (h .1))
 
 -- a scalar found at the front: the text starts with its bytes, and it is allowed
-pub record Front (s : List ℕ) (v w : ℕ) : Type 0 where
+record Front (s : List ℕ) (v w : ℕ) : Type 0 where
   pub bytes : s ≡ encode v ++ drop w s
   pub isAllowed : allowed v ≡ true
 
@@ -202,7 +202,7 @@ joins a t v w f l (rest us e q) ih =
     subst (Encodes (a ∷ t)) (sym q)
     (record { bytes = f .bytes ∙ ap (encode v ++_) (i .bytes); scalars = rw (f .isAllowed) (i .scalars) })
 
--- a text whose shorter texts are as said
+-- a text is the encodings of its scalars, if the shorter ones are
 step : (a : ℕ) (t vs : List ℕ) (x : Decoded) → scalarAt (a ∷ t) 0 ≡ x → decode (a ∷ t) ≡ some vs → Shorter (a ∷ t) → Encodes (a ∷ t) vs
 step a t vs Malformed e q ih =
     let n = decode-malformed (a ∷ t) 0 (omega arith) e in

@@ -1,7 +1,7 @@
 -- One scalar of a text, and the decoder on what is left. Assumes nothing.
-use Prim.Native.Nat.{ℕ, zero, suc, _+_, _*_, _%_, _-_, _^_, _<_, _≤_}
-use mathlib.Core.Bool.{Bool, true, false, _&&_}
-use mathlib.Core.Path.{_≡_, refl, _∙_, ap, sym, subst}
+use Prim.Native.Nat.{ℕ, zero, suc, _+_, _*_, _-_, _^_, _<_, _≤_}
+use mathlib.Core.Bool.{Bool, true, _&&_}
+use mathlib.Core.Path.{_≡_, refl, _∙_, sym, subst}
 use mathlib.Core.List.{List, [], _∷_}
 use native.Mathlib.Nat.{add-zero, zero-add}
 use native.Mathlib.Omega.{arith}
@@ -12,11 +12,11 @@ use mir.Val.{Fits}
 use mir.Facts.{fits-le}
 use lib.ListN.{length, getD, drop, drop-of-length-le, List·getD-eq-default}
 use lib.Seq.{drop-cons, drop-drop, getD-drop}
-use Rattle.identity.specs.Choice.{pick, within}
+use Rattle.identity.specs.Within.{within}
 use Rattle.identity.specs.declared.Decoded.{Decoded}
 use Rattle.identity.specs.declared.Decoded.the-variants.{Scalar, Malformed}
 use Rattle.identity.specs.Utf8.{allowed, follows, checked, valueOfTwo, valueOfThree, valueOfFour, twoBytes, threeBytes, fourBytes, scalarOf, scalarAt}
-use Rattle.identity.specs.Utf8.{Scalars, some, none, before, inFront, decodeAfter, decode}
+use Rattle.identity.specs.Utf8.{some, none, before, inFront, decodeAfter, decode}
 use Rattle.identity.proofs.Tests.{cases, both, within-true, within-in, within-below, within-above}
 
 -- the scalar at a place, by its first byte

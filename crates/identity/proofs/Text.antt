@@ -1,13 +1,13 @@
 -- What is known of an identity's text from its place. Assumes nothing.
 use Prim.Native.Nat.{ℕ, _+_, _≤_}
-use mathlib.Core.Bool.{Bool, true, false}
-use mathlib.Core.Path.{_≡_, refl}
+use mathlib.Core.Bool.{true, false}
+use mathlib.Core.Path.{_≡_}
 use mathlib.Core.List.{List, []}
 use native.Mathlib.Omega.{arith}
 use borrow.Author.Tests.{leb-true}
 use lib.ListN.{length, take, drop, length-take, length-drop}
 use Rattle.identity.specs.declared.IdentityPlace.{IdentityPlace}
-use Rattle.identity.specs.Text.{inside, namedText, placeInside, identityText}
+use Rattle.identity.specs.Text.{namedText, placeInside, identityText}
 
 pub text-outside : (batch house : List ℕ) (place : IdentityPlace) → placeInside batch house place ≡ false → identityText batch house place ≡ []
 text-outside batch house place e = rw e

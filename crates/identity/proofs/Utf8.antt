@@ -1,6 +1,6 @@
 -- UTF-8, scalar by scalar: what the loop of `is_utf8` keeps. Assumes nothing.
 use Prim.Native.Nat.{ℕ, _+_, _<_, _≤_}
-use mathlib.Core.Bool.{Bool, true, false}
+use mathlib.Core.Bool.{true, false}
 use mathlib.Core.Path.{_≡_, refl, _∙_, ap, sym}
 use mathlib.Core.List.{List}
 use lib.ListN.{length, drop}

@@ -1,14 +1,13 @@
 -- Visible ASCII characters: scalars by themselves, passed one by one or a block at a time. Assumes nothing.
 use Prim.Native.Nat.{ℕ, zero, suc, _+_, _-_, _<_, _≤_}
-use mathlib.Core.Bool.{Bool, true, false, _&&_}
+use mathlib.Core.Bool.{Bool, true, _&&_}
 use mathlib.Core.Path.{_≡_, refl, _∙_, sym}
 use mathlib.Core.List.{List}
 use native.Mathlib.Nat.{add-zero, add-suc}
 use native.Mathlib.Numerals.{add-one}
 use native.Mathlib.Omega.{arith}
 use lib.ListN.{length, getD}
-use Rattle.identity.specs.declared.Decoded.{Decoded}
-use Rattle.identity.specs.declared.Decoded.the-variants.{Scalar, Malformed}
+use Rattle.identity.specs.declared.Decoded.the-variants.{Scalar}
 use Rattle.identity.specs.Utf8.{scalarAt}
 use Rattle.identity.specs.Scan.{visible, allVisible, VisibleBetween}
 use Rattle.identity.proofs.Tests.{both, and-true, and-assoc, within-true}

@@ -1,4 +1,4 @@
-pub mod Choice
+pub mod Within
 pub mod Utf8
 pub mod Rfc3629
 pub mod Unicode

@@ -1,13 +1,20 @@
 -- The order of two lists by their elements, the first difference deciding, a prefix before what it begins.
 use Prim.Native.Nat.{ℕ}
+use mathlib.Core.Bool.{cond}
 use mathlib.Core.List.{List, [], _∷_}
 use lib.IntN.{ℤ, pos, negsuc}
 use lib.Dec.{ltb}
-use Rattle.identity.specs.Choice.{pick}
+use Rattle.identity.specs.declared.ByteOrder.{ByteOrder}
+use Rattle.identity.specs.declared.ByteOrder.the-variants.{Less, Equal, Greater}
+
+unfoldable pub compared : List ℕ → List ℕ → ByteOrder
+compared [] [] = Equal
+compared [] (y ∷ ys) = Less
+compared (x ∷ xs) [] = Greater
+compared (x ∷ xs) (y ∷ ys) = cond (ltb x y) Less (cond (ltb y x) Greater (compared xs ys))
 
 -- -1 where a comes before b, 0 where they are equal, 1 where a comes after b. (`negsuc 0` is -1.)
-unfoldable pub compared : List ℕ → List ℕ → ℤ
-compared [] [] = pos 0
-compared [] (y ∷ ys) = negsuc 0
-compared (x ∷ xs) [] = pos 1
-compared (x ∷ xs) (y ∷ ys) = pick (ltb x y) (negsuc 0) (pick (ltb y x) (pos 1) (compared xs ys))
+abbrev pub sign : ByteOrder → ℤ
+sign Less = negsuc 0
+sign Equal = pos 0
+sign Greater = pos 1

@@ -3,7 +3,7 @@ use Prim.Native.Nat.{ℕ}
 use mathlib.Core.Bool.{true}
 use mathlib.Core.Path.{_≡_}
 use mathlib.Core.List.{List}
-use Rattle.identity.specs.Utf8.{allAllowed, encodeAll, Scalars, some, decode, utf8}
+use Rattle.identity.specs.Utf8.{allAllowed, encodeAll, some, decode, utf8}
 
 -- The bytes s are the encodings of the scalars vs, one after the other, and each scalar is allowed.
 pub record Encodes (s vs : List ℕ) : Type 0 where

@@ -4,7 +4,7 @@ use mathlib.Core.Bool.{Bool, true, _&&_}
 use mathlib.Core.Path.{_≡_}
 use mathlib.Core.List.{List}
 use lib.ListN.{length, getD}
-use Rattle.identity.specs.Choice.{within}
+use Rattle.identity.specs.Within.{within}
 
 -- A visible ASCII character: a scalar by itself, no control and no white space.
 abbrev pub visible : ℕ → Bool

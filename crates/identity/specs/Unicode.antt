@@ -2,7 +2,7 @@
 use Prim.Native.Nat.{ℕ}
 use mathlib.Core.Bool.{Bool, false, _||_}
 use mathlib.Core.List.{List, [], _∷_}
-use Rattle.identity.specs.Choice.{within}
+use Rattle.identity.specs.Within.{within}
 
 -- The first and the last code point of each range.
 abbrev pub inRanges : List (ℕ × ℕ) → ℕ → Bool

@@ -1,10 +1,10 @@
 -- UTF-8 as document 01 condenses it from RFC 3629: the scalars, their bytes, and the scalars of a text.
 use Prim.Native.Nat.{ℕ, zero, suc, _+_, _*_, _/_, _%_, _-_}
-use mathlib.Core.Bool.{Bool, true, false, _&&_}
+use mathlib.Core.Bool.{Bool, true, false, _&&_, cond}
 use mathlib.Core.List.{List, [], _∷_, _++_}
 use lib.Dec.{ltb, leb}
 use lib.ListN.{getD}
-use Rattle.identity.specs.Choice.{pick, within}
+use Rattle.identity.specs.Within.{within}
 use Rattle.identity.specs.declared.Decoded.{Decoded}
 use Rattle.identity.specs.declared.Decoded.the-variants.{Scalar, Malformed}
 
@@ -19,9 +19,9 @@ allAllowed (v ∷ vs) = allowed v && allAllowed vs
 -- The bytes of a scalar, by the table of RFC 3629, section 3: six bits to each following byte, the highest bits first.
 unfoldable pub encode : ℕ → List ℕ
 encode v =
-    pick (ltb v 0x80) (v ∷ [])
-    (pick (ltb v 0x800) ((0xC0 + v / 64) ∷ (0x80 + v % 64) ∷ [])
-    (pick (ltb v 0x10000) ((0xE0 + v / 4096) ∷ (0x80 + v / 64 % 64) ∷ (0x80 + v % 64) ∷ [])
+    cond (ltb v 0x80) (v ∷ [])
+    (cond (ltb v 0x800) ((0xC0 + v / 64) ∷ (0x80 + v % 64) ∷ [])
+    (cond (ltb v 0x10000) ((0xE0 + v / 4096) ∷ (0x80 + v / 64 % 64) ∷ (0x80 + v % 64) ∷ [])
     ((0xF0 + v / 262144) ∷ (0x80 + v / 4096 % 64) ∷ (0x80 + v / 64 % 64) ∷ (0x80 + v % 64) ∷ [])))
 
 unfoldable pub encodeAll : List ℕ → List ℕ
@@ -36,7 +36,7 @@ follows b = within 0x80 0xBF b
 
 -- The scalar v in w bytes, where its following bytes are such, it is not below the first scalar of that length, and it is allowed.
 abbrev pub checked : Bool → ℕ → ℕ → ℕ → Decoded
-checked following low v w = pick (following && (leb low v && allowed v)) (Scalar v w) Malformed
+checked following low v w = cond (following && (leb low v && allowed v)) (Scalar v w) Malformed
 
 -- The values of two, three and four bytes: the low bits of the first, then six bits of each following byte.
 abbrev pub valueOfTwo : ℕ → ℕ → ℕ
@@ -60,10 +60,10 @@ fourBytes a b c d = checked (follows b && (follows c && follows d)) 0x10000 (val
 -- The scalar whose first byte is a, with b, c and d after it: 00-7F alone, C2-DF and one, E0-EF and two, F0-F4 and three, nothing else.
 abbrev pub scalarOf : ℕ → ℕ → ℕ → ℕ → Decoded
 scalarOf a b c d =
-    pick (within 0x00 0x7F a) (Scalar a 1)
-    (pick (within 0xC2 0xDF a) (twoBytes a b)
-    (pick (within 0xE0 0xEF a) (threeBytes a b c)
-    (pick (within 0xF0 0xF4 a) (fourBytes a b c d) Malformed)))
+    cond (within 0x00 0x7F a) (Scalar a 1)
+    (cond (within 0xC2 0xDF a) (twoBytes a b)
+    (cond (within 0xE0 0xEF a) (threeBytes a b c)
+    (cond (within 0xF0 0xF4 a) (fourBytes a b c d) Malformed)))
 
 -- The scalar at the place i of s. A byte past the end counts as 0, which is no following byte.
 unfoldable pub scalarAt : List ℕ → ℕ → Decoded

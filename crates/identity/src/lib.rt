@@ -1,13 +1,12 @@
 // The text of an identity: UTF-8, white space and controls, the part of a text that it names, the order by byte.
 ghost use mathlib.Core.Path.{_≡_};
-ghost use mathlib.Core.Bool.{Bool, _&&_, _||_};
 ghost use Prim.Native.Nat.{_+_, _<_, _≤_};
 ghost use lib.ListN.{length, getD};
-ghost use Rattle.identity.specs.Choice.{pick};
+ghost use mathlib.Core.Bool.{cond};
 ghost use Rattle.identity.specs.Utf8.{allowed, follows, checked, twoBytes, threeBytes, fourBytes, scalarAt, utf8};
 ghost use Rattle.identity.specs.Unicode.{control, whiteSpace};
 ghost use Rattle.identity.specs.Identity.{validId};
-ghost use Rattle.identity.specs.Order.{compared};
+ghost use Rattle.identity.specs.Order.{compared, sign};
 ghost use Rattle.identity.specs.Text.{partAt, partPointer, namedText, placeInside, identityText, identityPointer};
 ghost use Rattle.identity.specs.Scan.{visible, allVisible, VisibleBetween};
 
@@ -18,13 +17,14 @@ pub struct IdentityPlace {
     pub len: u32,
 }
 
-// What stands at a place of a text.
+// What stands at a place of a text: a scalar, or bytes that encode none.
 enum Decoded {
     // A scalar's value, and how many bytes it takes.
     Scalar(u32, usize),
     Malformed,
 }
 
+// A byte as a wider number.
 fn wide(x: u8) -> u32
     ensures { λ r. ⌜ r ≡ x ⌝ }
 {
@@ -65,12 +65,14 @@ fn checked(following: bool, low: u32, value: u32, width: usize) -> Decoded
     Decoded::Malformed
 }
 
+// The scalar that two bytes encode.
 fn two_bytes(a: u8, b: u8) -> Decoded
     ensures { λ r. ⌜ r ≡ twoBytes a b ⌝ }
 {
     checked(follows(b), 0x80, wide(a) % 32 * 64 + wide(b) % 64, 2)
 }
 
+// The scalar that three bytes encode.
 fn three_bytes(a: u8, b: u8, c: u8) -> Decoded
     ensures { λ r. ⌜ r ≡ threeBytes a b c ⌝ }
 {
@@ -82,6 +84,7 @@ fn three_bytes(a: u8, b: u8, c: u8) -> Decoded
     )
 }
 
+// The scalar that four bytes encode.
 fn four_bytes(a: u8, b: u8, c: u8, d: u8) -> Decoded
     ensures { λ r. ⌜ r ≡ fourBytes a b c d ⌝ }
 {
@@ -122,14 +125,14 @@ fn utf8_scalar(text: &[u8], at: usize) -> Decoded
     Decoded::Malformed
 }
 
-// Cc.
+// A control: general category Cc.
 fn unicode_control(value: u32) -> bool
     ensures { λ r. ⌜ r ≡ control value ⌝ }
 {
     (value <= 0x1F) | ((0x7F <= value) & (value <= 0x9F))
 }
 
-// White_Space.
+// The property White_Space.
 fn unicode_whitespace(value: u32) -> bool
     ensures { λ r. ⌜ r ≡ whiteSpace value ⌝ }
 {
@@ -248,7 +251,7 @@ pub fn part_at(text: &[u8], start: u32, len: u32) -> &[u8]
 // The text that a place is in.
 fn named_text<'a>(batch: &'a [u8], house: &'a [u8], place: IdentityPlace) -> &'a [u8]
     ensures { λ r. ⌜ now r ≡ namedText (now (batch .entry)) (now (house .entry)) place ⌝ }
-    ensures { λ r. ⌜ r .ptr ≡ pick (place .house) (house .entry .ptr) (batch .entry .ptr) ⌝ }
+    ensures { λ r. ⌜ r .ptr ≡ cond (place .house) (house .entry .ptr) (batch .entry .ptr) ⌝ }
 {
     if place.house { house } else { batch }
 }
@@ -269,40 +272,63 @@ pub fn identity_text<'a>(batch: &'a [u8], house: &'a [u8], place: IdentityPlace)
     part_at(named_text(batch, house, place), place.start, place.len)
 }
 
-// The order of two texts by byte: -1, 0 or 1.
-fn compare_bytes<'a>(left: &'a [u8], right: &'a [u8]) -> i8
+// The order of two texts by byte.
+pub enum ByteOrder {
+    Less,
+    Equal,
+    Greater,
+}
+
+fn compare_bytes<'a>(left: &'a [u8], right: &'a [u8]) -> ByteOrder
     ensures { λ r. ⌜ r ≡ compared (now (left .entry)) (now (right .entry)) ⌝ }
 {
     let mut i = 0;
     while i < left.len() {
         if right.len() <= i {
-            return 1;
+            return ByteOrder::Greater;
         }
         if left[i] < right[i] {
-            return -1;
+            return ByteOrder::Less;
         }
         if right[i] < left[i] {
-            return 1;
+            return ByteOrder::Greater;
         }
         i += 1;
     }
     if i < right.len() {
-        return -1;
+        return ByteOrder::Less;
     }
-    0
+    ByteOrder::Equal
 }
 
-// The order of two identities by byte, a place outside counting as empty: -1, 0 or 1.
-pub fn compare_utf8<'a>(
+// The order of two identities by byte, a place outside counting as empty.
+pub fn compare_places<'a>(
     batch: &'a [u8],
     house: &'a [u8],
     left: IdentityPlace,
     right: IdentityPlace,
-) -> i8
+) -> ByteOrder
     ensures { λ r. ⌜ r ≡ compared (identityText (now (batch .entry)) (now (house .entry)) left) (identityText (now (batch .entry)) (now (house .entry)) right) ⌝ }
 {
     compare_bytes(
         identity_text(batch, house, left),
         identity_text(batch, house, right),
     )
+}
+
+// The same as a number: -1, 0 or 1.
+pub fn compare_utf8<'a>(
+    batch: &'a [u8],
+    house: &'a [u8],
+    left: IdentityPlace,
+    right: IdentityPlace,
+) -> i8
+    ensures { λ r. ⌜ r ≡ sign (compared (identityText (now (batch .entry)) (now (house .entry)) left) (identityText (now (batch .entry)) (now (house .entry)) right)) ⌝ }
+{
+    let order = compare_places(batch, house, left, right);
+    match order {
+        ByteOrder::Less => -1,
+        ByteOrder::Equal => 0,
+        ByteOrder::Greater => 1,
+    }
 }

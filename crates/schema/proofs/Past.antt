@@ -8,10 +8,10 @@ use Rattle.schema.specs.Number.{number}
 use Rattle.schema.specs.Layout.{Layout, bytes, offset, fieldAt}
 use Rattle.schema.specs.Rows.{byteOf, field, row, empty}
 
-byte-past : (p : List ℕ) (o : ℕ) → length p ≤ o → getD p o 0 ≡ 0
+pub byte-past : (p : List ℕ) (o : ℕ) → length p ≤ o → getD p o 0 ≡ 0
 byte-past p o h = List·getD-eq-default p 0 h
 
-number-past : (p : List ℕ) (k o : ℕ) → length p ≤ o → number k p o ≡ 0
+pub number-past : (p : List ℕ) (k o : ℕ) → length p ≤ o → number k p o ≡ 0
 unfolding number
 number-past p zero o h = refl
 number-past p (suc k) o h =

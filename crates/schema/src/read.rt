@@ -101,7 +101,7 @@ fn place_of(house: bool, p: &[u8], n: usize, j: usize) -> IdentityPlace
     }
 }
 
-fn maybe_mode(present: bool, m: u32) -> MaybeMode
+pub fn maybe_mode(present: bool, m: u32) -> MaybeMode
     ensures { λ r. ⌜ r ≡ maybeMode present m ⌝ }
 {
     if present {
@@ -110,7 +110,7 @@ fn maybe_mode(present: bool, m: u32) -> MaybeMode
     MaybeMode::NoMode
 }
 
-fn maybe_scope(present: bool, s: u32) -> MaybeScope
+pub fn maybe_scope(present: bool, s: u32) -> MaybeScope
     ensures { λ r. ⌜ r ≡ maybeScope present s ⌝ }
 {
     if present {
@@ -187,7 +187,7 @@ fn timing_of(k: u8, present: bool, nanos: u64) -> ActionTiming
     }
 }
 
-fn kind_of(k: u8) -> BindingKind
+pub fn kind_of(k: u8) -> BindingKind
     ensures { λ r. ⌜ r ≡ kindOf k ⌝ }
 {
     match k {

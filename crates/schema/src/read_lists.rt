@@ -31,10 +31,7 @@ use crate::read::word_of;
 fn index_at(p: &[u8], n: usize) -> u32
     ensures { λ r. ⌜ r ≡ indexAt (now (p .entry)) n ⌝ }
 {
-    if p.len() / 64 < n {
-        return 0;
-    }
-    word_of(p, n, 4)
+    crate::parts::word_at(p, n, 4)
 }
 
 pub fn level_at(p: &[u8], n: usize) -> LevelReactionImage

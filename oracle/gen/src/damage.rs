@@ -1,7 +1,7 @@
 //! Targeted damage: one to three changes to rows that still pass the packing rules.
 use crate::rng::Rng;
 use crate::texts::{name, utf8, Texts};
-use pack::layout::{numbers, Number, Shape, ENCLAVE, FEDERATE, MODES, SCOPES, TABLES};
+use pack::layout::{numbers, Number, Shape, ENCLAVE, FEDERATE, MODES, REACTORS, SCOPES, TABLES};
 use pack::row::Row;
 
 /// Scalars that make an identity invalid alone, in front or behind: White_Space and controls.
@@ -31,6 +31,30 @@ pub fn damage(rng: &mut Rng, rows: &mut Vec<Row>, texts: &mut Texts, only: Optio
             10 if rows[at].table == SCOPES => change_scope(rng, rows, at),
             _ => change_number(rng, rows, at, texts),
         }
+    }
+}
+
+/// Spoils several fields of one row of tables 2 to 7, so that the order of its checks decides.
+pub fn spoil_row(rng: &mut Rng, rows: &mut [Row], texts: &mut Texts) {
+    let table = rng.between(REACTORS.into(), SCOPES.into()) as u8;
+    let Some(at) = some_row(rng, rows, Some(table)) else {
+        return;
+    };
+    for bit in 0..2 {
+        if TABLES[table as usize].bits >> bit & 1 == 1 && rng.chance(1, 2) {
+            rows[at].bits |= 1 << bit;
+        }
+    }
+    rows[at].settle();
+    let layout = numbers(table);
+    let mut fields: Vec<usize> =
+        (0..layout.len()).filter(|place| layout[*place].part == 0 && rows[at].present(*place)).collect();
+    rng.shuffle(&mut fields);
+    for place in fields.into_iter().take(rng.between(2, 4) as usize) {
+        rows[at].numbers[place] = other_value(rng, rows, at, place, layout[place]);
+    }
+    if rng.chance(1, 4) {
+        change_number(rng, rows, at, texts);
     }
 }
 

@@ -1,5 +1,5 @@
 //! The styles of cases, and how often each is taken.
-use crate::damage::damage;
+use crate::damage::{damage, spoil_row};
 use crate::line::{grown, Extent};
 use crate::plan::{Size, SMALL};
 use crate::rng::Rng;
@@ -17,9 +17,10 @@ pub struct Style {
     make: fn(&mut Rng, Kind) -> Case,
 }
 
-pub const STYLES: [Style; 8] = [
+pub const STYLES: [Style; 9] = [
     Style { name: "grown", weight: 190, make: plain },
-    Style { name: "damaged", weight: 360, make: damaged },
+    Style { name: "damaged", weight: 280, make: damaged },
+    Style { name: "rows", weight: 80, make: rows },
     Style { name: "bytes", weight: 60, make: bytes },
     Style { name: "tiny", weight: 100, make: small },
     Style { name: "routes", weight: 100, make: routes },
@@ -30,9 +31,9 @@ pub const STYLES: [Style; 8] = [
 
 /// Filters that name several styles, with the kind of case that they are held to.
 const GROUPS: [(&str, &[&str], Option<Kind>); 4] = [
-    ("all", &["grown", "damaged", "bytes", "tiny", "routes", "text", "ends", "faults"], None),
-    ("station", &["grown", "damaged", "tiny", "routes", "text"], Some(Kind::Enclave)),
-    ("line", &["grown", "damaged", "tiny", "routes", "text"], Some(Kind::Federate)),
+    ("all", &["grown", "damaged", "rows", "bytes", "tiny", "routes", "text", "ends", "faults"], None),
+    ("station", &["grown", "damaged", "rows", "tiny", "routes", "text"], Some(Kind::Enclave)),
+    ("line", &["grown", "damaged", "rows", "tiny", "routes", "text"], Some(Kind::Federate)),
     ("packing", &["bytes", "text", "ends", "faults"], None),
 ];
 
@@ -103,6 +104,12 @@ fn plain(rng: &mut Rng, kind: Kind) -> Case {
 fn damaged(rng: &mut Rng, kind: Kind) -> Case {
     let (mut rows, mut texts) = small_image(rng, kind);
     damage(rng, &mut rows, &mut texts, None);
+    case(kind, &rows, texts)
+}
+
+fn rows(rng: &mut Rng, kind: Kind) -> Case {
+    let (mut rows, mut texts) = small_image(rng, kind);
+    spoil_row(rng, &mut rows, &mut texts);
     case(kind, &rows, texts)
 }
 

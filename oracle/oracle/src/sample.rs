@@ -6,13 +6,13 @@ use std::fs::File;
 use std::io::{self, BufWriter, Write};
 
 /// Cases taken of each site, the smallest first.
-const OF_EACH: usize = 6;
+const OF_EACH: usize = 5;
 /// The largest case taken to meet a site that smaller ones do not meet.
 const LARGEST: usize = 100_000;
 /// The largest case taken as one of several of its site.
-const MIDDLE: usize = 4_000;
+const MIDDLE: usize = 2_500;
 /// The largest case taken to fill up.
-const SMALL: usize = 1_000;
+const SMALL: usize = 900;
 
 pub fn write(corpus: &str, out: &str, answers: &str, count: &str) -> Done {
     let count: usize = count.parse().map_err(|_| io::Error::other("COUNT is a number"))?;

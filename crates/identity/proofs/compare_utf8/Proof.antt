@@ -1,6 +1,6 @@
--- `identity::compare_utf8` meets its contract. The result is read back from the machine's bits (`toZ-ofZ`).
-use mathlib.Core.Path.{_∙_}
-use mir.Facts.{toZ-ofZ}
+-- `identity::compare_utf8` meets its contract. Assumes nothing.
+use Rattle.identity.specs.Order.{sign}
+use mathlib.Core.Path.{_∙_, ap, sym}
 use borrow.Author.Needs.{needs}
 use Rattle.identity.proofs.compare_utf8.Statement.{statement}
 use Rattle.identity.proofs.compare_utf8.Tie as tie
@@ -10,6 +10,9 @@ compare-utf8-spec =
     tie.close
     (tie.spec
     (λ c κs. search needs)
-    (λ c κs. search needs)
-    (λ c κs. search needs)
-    (λ c. search toZ-ofZ ∙ rw (c .before .identity-text2 .ensures .0, c .before .before .identity-text .ensures .0) at (c .compare-bytes .ensures)))
+    (λ c. search needs)
+    (λ c. search needs)
+    (λ c. search needs)
+    (λ c. ap sign (sym (c .enum-told .given .1) ∙ c .before .before .compare-places .ensures))
+    (λ c. ap sign (sym (c .enum-told2 .given .1) ∙ c .before .before .compare-places .ensures))
+    (λ c. ap sign (sym (c .enum-told3 .given .1) ∙ c .before .before .compare-places .ensures)))

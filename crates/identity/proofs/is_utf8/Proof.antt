@@ -1,7 +1,6 @@
 -- `identity::is_utf8` meets its contract. The loop's invariant: the text is UTF-8 exactly where its rest is.
 use Prim.Native.Nat.{_≤_, _-_}
 use lib.ListN.{length}
-use native.Mathlib.Omega.{arith}
 use borrow.Author.Needs.{needs}
 use Rattle.identity.proofs.Utf8.{Utf8From, utf8-laws}
 use Rattle.identity.proofs.Scalar.{next-fits, next-inside, next-less}

@@ -17,4 +17,4 @@ three-bytes-spec =
     (λ c κs. search needs)
     (λ c. search needs)
     (λ c κs. search needs)
-    (λ c. cc))
+    (λ c. simp (c .checked .ensures, c .before .wide3 .ensures, c .before .before .wide2 .ensures, c .before .before .before .wide .ensures, c .before .before .before .before .follows2 .ensures, c .before .before .before .before .before .follows .ensures)))

@@ -13,4 +13,4 @@ two-bytes-spec =
     (λ c κs. search needs)
     (λ c. search needs)
     (λ c κs. search needs)
-    (λ c. cc))
+    (λ c. simp (c .checked .ensures, c .before .wide2 .ensures, c .before .before .wide .ensures, c .before .before .before .follows .ensures)))

@@ -1,7 +1,6 @@
 -- `identity::valid_id` meets its contract. The loop's invariant: the text is a valid identity exactly where its rest may end one.
 use Prim.Native.Nat.{_≤_, _-_}
 use lib.ListN.{length}
-use native.Mathlib.Omega.{arith}
 use borrow.Author.Needs.{needs}
 use Rattle.identity.proofs.Valid.{ValidFrom, valid-laws}
 use Rattle.identity.proofs.Scalar.{next-fits, next-inside, next-less}

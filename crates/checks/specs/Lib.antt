@@ -1,0 +1,4 @@
+pub mod Image
+pub mod Refs
+pub mod Lists
+pub mod Identities

@@ -1,0 +1,199 @@
+// Lists of reactions by level, and of lifecycle reactions.
+ghost use mathlib.Core.Path.{_≡_};
+ghost use mathlib.Core.List.{[], _∷_};
+ghost use Prim.Native.Nat.{_+_, _<_};
+ghost use Rattle.answers.specs.Checks.{Decides};
+ghost use Rattle.checks.specs.Image.{startOf, rowsOf, reactionsAt, levelsAt, lifecyclesAt};
+ghost use Rattle.checks.specs.Lists.{entryIndex, levelEqual, levelLess, levelRefChecks, levelOrderChecks, levelChecks, lifecycleChecks, levelsChecks, lifecyclesChecks};
+ghost use Rattle.checks.specs.Refs.{refTo};
+use crate::Found;
+use answers::Outcome;
+use answers::Refusal;
+use answers::field;
+use schema::TableStarts;
+use schema::index::ActionIndex;
+use schema::lists::LevelReactionImage;
+use schema::lists::LifecycleReactionImage;
+use schema::parts;
+use schema::read_lists;
+
+// The row number shown for entry k of a range.
+fn entry_index(start: u32, k: u32) -> u32
+    ensures { λ r. ⌜ r ≡ entryIndex start k ⌝ }
+{
+    ((start as u64 + k as u64) % 0x1_0000_0000) as u32
+}
+
+
+fn level_equal(a: LevelReactionImage, b: LevelReactionImage) -> bool
+    ensures { λ r. ⌜ r ≡ levelEqual a b ⌝ }
+{
+    if a.level != b.level {
+        return false;
+    }
+    let x = a.reaction;
+    let y = b.reaction;
+    x.0 == y.0
+}
+
+// By level, then by reaction.
+fn level_less(a: LevelReactionImage, b: LevelReactionImage) -> bool
+    ensures { λ r. ⌜ r ≡ levelLess a b ⌝ }
+{
+    if a.level < b.level {
+        return true;
+    }
+    if a.level != b.level {
+        return false;
+    }
+    let x = a.reaction;
+    let y = b.reaction;
+    x.0 < y.0
+}
+
+// An entry's reaction is there, and has the entry's level.
+pub fn validate_level_ref(
+    p: &[u8],
+    s: &TableStarts,
+    table: u8,
+    index: u32,
+    entry: LevelReactionImage,
+) -> Outcome
+    ensures { λ r. ⌜ Decides (levelRefChecks (rowsOf (now (s .entry))) (reactionsAt (now (p .entry)) (now (s .entry))) table index entry) r ⌝ }
+{
+    let key = entry.reaction;
+    let found = crate::refs::check_reaction_ref(s, table, index, field::REACTION, key);
+    let Found::Row(n) = found else {
+        return found.refused();
+    };
+    if parts::reaction_level_at(p, n) == entry.level {
+        return Outcome::Passed;
+    }
+    Outcome::Refused(Refusal::OwnershipMismatch {
+        table,
+        index,
+        field: field::DEPENDENCY_LEVEL,
+    })
+}
+
+// An entry is above the one before it.
+fn check_level_order(
+    table: u8,
+    index: u32,
+    entry: LevelReactionImage,
+    before: LevelReactionImage,
+) -> Outcome
+    ensures { λ r. ⌜ Decides (levelOrderChecks table index entry before) r ⌝ }
+{
+    if level_equal(entry, before) {
+        return Outcome::Refused(Refusal::DuplicateEntry { table, index });
+    }
+    if level_less(entry, before) {
+        return Outcome::Refused(Refusal::EntriesNotSorted { table, index });
+    }
+    Outcome::Passed
+}
+
+// Entry k of the range of a table that begins at `start`.
+fn level_entry(p: &[u8], s: &TableStarts, table: u8, start: u32, k: u32) -> LevelReactionImage
+    requires { ⌜ table < 25 ⌝ }
+    ensures { λ r. ⌜ r ≡ levelsAt (now (p .entry)) (now (s .entry)) table (start + k) ⌝ }
+{
+    let t = table as usize;
+    read_lists::level_at(p, crate::refs::row_in(s[t], start, k))
+}
+
+fn lifecycle_entry(
+    p: &[u8],
+    s: &TableStarts,
+    table: u8,
+    start: u32,
+    k: u32,
+) -> LifecycleReactionImage
+    requires { ⌜ table < 25 ⌝ }
+    ensures { λ r. ⌜ r ≡ lifecyclesAt (now (p .entry)) (now (s .entry)) table (start + k) ⌝ }
+{
+    let t = table as usize;
+    read_lists::lifecycle_at(p, crate::refs::row_in(s[t], start, k))
+}
+
+fn check_level(p: &[u8], s: &TableStarts, table: u8, start: u32, k: u32) -> Outcome
+    requires { ⌜ table < 25 ⌝ }
+    ensures { λ r. ⌜ Decides (levelChecks (rowsOf (now (s .entry))) (reactionsAt (now (p .entry)) (now (s .entry))) (levelsAt (now (p .entry)) (now (s .entry))) table start k) r ⌝ }
+{
+    let index = entry_index(start, k);
+    let entry = level_entry(p, s, table, start, k);
+    let a = validate_level_ref(p, s, table, index, entry);
+    let Outcome::Passed = a else {
+        return a;
+    };
+    if k == 0 {
+        return Outcome::Passed;
+    }
+    check_level_order(table, index, entry, level_entry(p, s, table, start, k - 1))
+}
+
+fn check_lifecycle(p: &[u8], s: &TableStarts, table: u8, start: u32, k: u32) -> Outcome
+    requires { ⌜ table < 25 ⌝ }
+    ensures { λ r. ⌜ Decides (lifecycleChecks (rowsOf (now (s .entry))) (reactionsAt (now (p .entry)) (now (s .entry))) (lifecyclesAt (now (p .entry)) (now (s .entry))) table start k) r ⌝ }
+{
+    let index = entry_index(start, k);
+    let entry = lifecycle_entry(p, s, table, start, k);
+    let a = check_action(s, table, index, entry.action);
+    let Outcome::Passed = a else {
+        return a;
+    };
+    let reaction = entry.reaction;
+    let b = validate_level_ref(p, s, table, index, reaction);
+    let Outcome::Passed = b else {
+        return b;
+    };
+    if k == 0 {
+        return Outcome::Passed;
+    }
+    let before = lifecycle_entry(p, s, table, start, k - 1);
+    check_level_order(table, index, reaction, before.reaction)
+}
+
+// An entry's action is there.
+pub fn check_action(s: &TableStarts, table: u8, index: u32, action: ActionIndex) -> Outcome
+    ensures { λ r. ⌜ Decides (refTo (rowsOf (now (s .entry))) table index 29 3 (action .0) ∷ []) r ⌝ }
+{
+    let found = crate::refs::check_action_ref(s, table, index, field::ACTION, action);
+    let Found::Row(_n) = found else {
+        return found.refused();
+    };
+    Outcome::Passed
+}
+
+// The `len` entries from `start` of a table of reactions by level.
+pub fn validate_levels(p: &[u8], s: &TableStarts, table: u8, start: u32, len: u32) -> Outcome
+    requires { ⌜ table < 25 ⌝ }
+    ensures { λ r. ⌜ Decides (levelsChecks (rowsOf (now (s .entry))) (reactionsAt (now (p .entry)) (now (s .entry))) (levelsAt (now (p .entry)) (now (s .entry))) table start len) r ⌝ }
+{
+    let mut k = 0;
+    while k < len {
+        let a = check_level(p, s, table, start, k);
+        let Outcome::Passed = a else {
+            return a;
+        };
+        k += 1;
+    }
+    Outcome::Passed
+}
+
+// The `len` entries from `start` of a table of lifecycle reactions.
+pub fn validate_lifecycle(p: &[u8], s: &TableStarts, table: u8, start: u32, len: u32) -> Outcome
+    requires { ⌜ table < 25 ⌝ }
+    ensures { λ r. ⌜ Decides (lifecyclesChecks (rowsOf (now (s .entry))) (reactionsAt (now (p .entry)) (now (s .entry))) (lifecyclesAt (now (p .entry)) (now (s .entry))) table start len) r ⌝ }
+{
+    let mut k = 0;
+    while k < len {
+        let a = check_lifecycle(p, s, table, start, k);
+        let Outcome::Passed = a else {
+            return a;
+        };
+        k += 1;
+    }
+    Outcome::Passed
+}

@@ -1,0 +1,129 @@
+// A record without stray bytes, bits or kinds, whose absent fields are zero (refusal 4).
+ghost use mathlib.Core.Path.{_≡_};
+ghost use mathlib.Core.Bool.{true, not, _&&_, _||_, cond};
+ghost use Prim.Native.Nat.{_+_, _*_, _-_, _<_, _≤_, _^_};
+ghost use lib.Dec.{ltb, leb, eqb};
+ghost use Rattle.schema.specs.Rows.{bitOf};
+ghost use Rattle.packing.specs.Clean.{zeros, clean};
+use crate::shape::Governed;
+use crate::shape::Shape;
+use schema::number::byte;
+use schema::number::long;
+use schema::read::bit;
+
+fn wide(x: u8) -> usize
+    ensures { λ r. ⌜ (r ≡ x) × (r < 256) ⌝ }
+{
+    x as usize
+}
+
+// Whether the k bytes from `at` are zero, one by one.
+fn zero_bytes(p: &[u8], at: usize, k: usize) -> bool
+    ensures { λ r. ⌜ r ≡ zeros (now (p .entry)) at k ⌝ }
+{
+    let mut i = 0;
+    while i < k {
+        if byte(p, at, i) != 0 {
+            return false;
+        }
+        i += 1;
+    }
+    true
+}
+
+// Whether the 8 k bytes from `at` are zero, eight at a time.
+fn zero_longs(p: &[u8], at: usize, k: usize) -> bool
+    requires { ⌜ at + 8 * k < 2 ^ 64 ⌝ }
+    ensures { λ r. ⌜ r ≡ zeros (now (p .entry)) at (8 * k) ⌝ }
+{
+    let mut i = 0;
+    while i < k {
+        if long(p, at + 8 * i) != 0 {
+            return false;
+        }
+        i += 1;
+    }
+    true
+}
+
+// Whether the k bytes from `at` are zero.
+fn zeros(p: &[u8], at: usize, k: usize) -> bool
+    requires { ⌜ at + k < 2 ^ 64 ⌝ }
+    ensures { λ r. ⌜ r ≡ zeros (now (p .entry)) at k ⌝ }
+{
+    let longs = k / 8;
+    zero_longs(p, at, longs) & zero_bytes(p, at + 8 * longs, k % 8)
+}
+
+// Bytes 1 to 3.
+fn head_clean(shape: Shape, bits: u8, kind: u8, last: u8) -> bool
+    ensures { λ r. ⌜ r ≡ (leb bits (shape .bits) && (leb kind (shape .kinds) && eqb last 0)) ⌝ }
+{
+    (bits <= shape.bits) & ((kind <= shape.kinds) & (last == 0))
+}
+
+// The bytes past the last field.
+fn tail_clean(p: &[u8], start: usize, used: u8) -> bool
+    requires { ⌜ start + 256 < 2 ^ 64 ⌝ }
+    ensures { λ r. ⌜ r ≡ zeros (now (p .entry)) (start + used) (64 - used) ⌝ }
+{
+    let used = wide(used);
+    if used < 64 {
+        return zeros(p, start + used, 64 - used);
+    }
+    true
+}
+
+// The fields that a presence bit governs.
+fn absent_clean(present: bool, p: &[u8], start: usize, governed: Governed) -> bool
+    requires { ⌜ start + 512 < 2 ^ 64 ⌝ }
+    ensures { λ r. ⌜ r ≡ (present || zeros (now (p .entry)) (start + governed .offset) (governed .len)) ⌝ }
+{
+    if present {
+        return true;
+    }
+    zeros(p, start + wide(governed.offset), wide(governed.len))
+}
+
+// The bit and the D of an action's timing.
+fn timing_clean(p: &[u8], start: usize, period: bool, kind: u8) -> bool
+    requires { ⌜ start + 64 < 2 ^ 64 ⌝ }
+    ensures { λ r. ⌜ r ≡ ((eqb kind 2 || not period) && (ltb kind 2 || (period || zeros (now (p .entry)) (start + 16) 8))) ⌝ }
+{
+    ((kind == 2) | !period) & ((kind < 2) | (period | zeros(p, start + 16, 8)))
+}
+
+// What is asked of tables 3 and 5 beside their fields.
+fn kind_clean(table: u8, p: &[u8], start: usize, bit_1: bool, kind: u8) -> bool
+    requires { ⌜ start + 64 < 2 ^ 64 ⌝ }
+    ensures { λ r. ⌜ r ≡ cond (eqb table 3) ((eqb kind 2 || not «bit_1») && (ltb kind 2 || («bit_1» || zeros (now (p .entry)) (start + 16) 8))) (cond (eqb table 5) («bit_1» || eqb kind 0) true) ⌝ }
+{
+    if table == 3 {
+        return timing_clean(p, start, bit_1, kind);
+    }
+    if table == 5 {
+        return bit_1 | (kind == 0);
+    }
+    true
+}
+
+// Whether record n is clean. A record past the pack is, as a record of zeros.
+pub fn clean(p: &[u8], n: usize) -> bool
+    ensures { λ r. ⌜ r ≡ clean (now (p .entry)) n ⌝ }
+{
+    if p.len() / 64 < n {
+        return true;
+    }
+    let start = n * 64;
+    let table = byte(p, start, 0);
+    let bits = byte(p, start, 1);
+    let kind = byte(p, start, 2);
+    let bit_0 = bit(bits, 1);
+    let bit_1 = bit(bits, 2);
+    let shape = crate::shape::shape_of(table);
+    let head = head_clean(shape, bits, kind, byte(p, start, 3));
+    let tail = tail_clean(p, start, shape.used);
+    let absent_0 = absent_clean(bit_0, p, start, shape.bit_0);
+    let absent_1 = absent_clean(bit_1, p, start, shape.bit_1);
+    (head & (tail & (absent_0 & absent_1))) & kind_clean(table, p, start, bit_1, kind)
+}

@@ -1,0 +1,210 @@
+// The packing rules: lengths, then record by record the table's place, stray bytes, and each identity's text.
+ghost use mathlib.Core.Path.{_≡_};
+ghost use mathlib.Core.Bool.{true};
+ghost use Prim.Native.Nat.{_*_, _/_, _<_, _≤_, _^_};
+ghost use lib.ListN.{length};
+ghost use Rattle.answers.specs.Checks.{first, run, Decides};
+ghost use Rattle.schema.specs.Rows.{byteOf, bitOf};
+ghost use Rattle.packing.specs.Shape.{layoutOf};
+ghost use Rattle.packing.specs.Records.{recordAt};
+ghost use Rattle.packing.specs.Packing.{packFits, textFits, rowAfter, firstTable, tableAfter, inPlace, identityAt, identityChecks, recordChecks, packingChecks};
+use crate::PackKind;
+use crate::clean::clean;
+use crate::shape::TABLES;
+use crate::shape::shape_of;
+use crate::walker::Record;
+use crate::walker::record_by_walker;
+use answers::Outcome;
+use answers::Refusal;
+use identity::IdentityPlace;
+use schema::number::byte;
+use schema::number::word;
+use schema::read::byte_of;
+
+const MAX_PACK: usize = 4194304;
+
+const MAX_TEXT: usize = 65536;
+
+fn pack_fits(pack: &[u8]) -> bool
+    ensures { λ r. ⌜ r ≡ packFits (now (pack .entry)) ⌝ }
+{
+    let len = pack.len();
+    (0 < len) & ((len <= MAX_PACK) & (len % 64 == 0))
+}
+
+fn text_fits(text: &[u8]) -> bool
+    ensures { λ r. ⌜ r ≡ textFits (now (text .entry)) ⌝ }
+{
+    text.len() <= MAX_TEXT
+}
+
+fn row_after(previous: u8, table: u8) -> bool
+    ensures { λ r. ⌜ r ≡ rowAfter previous table ⌝ }
+{
+    (2 <= table) & (((table as usize) < TABLES) & (previous <= table))
+}
+
+fn first_table(kind: PackKind) -> u8
+    ensures { λ r. ⌜ r ≡ firstTable kind ⌝ }
+{
+    match kind {
+        PackKind::Enclave => 1,
+        PackKind::Federate => 0,
+    }
+}
+
+// Whether a record of `table` may follow one of `previous`.
+fn table_after(kind: PackKind, previous: u8, table: u8) -> bool
+    ensures { λ r. ⌜ r ≡ tableAfter kind previous table ⌝ }
+{
+    let row = row_after(previous, table);
+    match kind {
+        PackKind::Enclave => row,
+        PackKind::Federate => (table == 1) | ((1 <= previous) & row),
+    }
+}
+
+// Whether record n, of `table`, is in its place.
+fn in_place(kind: PackKind, pack: &[u8], n: u32, table: u8) -> bool
+    requires { ⌜ (n ≤ length (now pack) / 64) × (table ≡ byteOf (now pack) n 0) ⌝ }
+    ensures { λ r. ⌜ r ≡ inPlace kind (now (pack .entry)) n ⌝ }
+{
+    if n == 0 {
+        return table == first_table(kind);
+    }
+    let before = n - 1;
+    table_after(kind, byte_of(pack, before as usize, 0), table)
+}
+
+// Bit j of a byte.
+fn bit_at(b: u8, j: u8) -> bool
+    requires { ⌜ j < 8 ⌝ }
+    ensures { λ r. ⌜ r ≡ bitOf b j ⌝ }
+{
+    (b >> j) % 2 == 1
+}
+
+// The place of identity j of the record at `start`.
+fn identity_at(pack: &[u8], n: u32, start: usize, j: u8) -> IdentityPlace
+    requires { ⌜ (start ≡ n * 64) × ((n < length (now pack) / 64) × (j < layoutOf (byteOf (now pack) n 0) .identities)) ⌝ }
+    ensures { λ r. ⌜ r ≡ identityAt (now (pack .entry)) n j ⌝ }
+{
+    let first = start + 4 + 8 * (j as usize);
+    IdentityPlace {
+        house: bit_at(byte(pack, start, 1), j),
+        start: word(pack, first),
+        len: word(pack, first + 4),
+    }
+}
+
+// The checks of identity j.
+fn check_identity<'a>(
+    pack: &'a [u8],
+    batch: &'a [u8],
+    house: &'a [u8],
+    n: u32,
+    start: usize,
+    j: u8,
+) -> Outcome
+    requires { ⌜ (start ≡ n * 64) × ((n < length (now pack) / 64) × (j < layoutOf (byteOf (now pack) n 0) .identities)) ⌝ }
+    ensures { λ r. ⌜ Decides (identityChecks (now (pack .entry)) (now (batch .entry)) (now (house .entry)) n j) r ⌝ }
+{
+    let id = identity_at(pack, n, start, j);
+    if !identity::place_inside(batch, house, id) {
+        return Outcome::Refused(Refusal::IdentityOutside { record: n });
+    }
+    if !identity::is_utf8(identity::identity_text(batch, house, id)) {
+        return Outcome::Refused(Refusal::NotUtf8 { record: n });
+    }
+    Outcome::Passed
+}
+
+// The checks of a record's identities, in field order.
+fn check_identities<'a>(
+    pack: &'a [u8],
+    batch: &'a [u8],
+    house: &'a [u8],
+    n: u32,
+    start: usize,
+    count: u8,
+) -> Outcome
+    requires { ⌜ (start ≡ n * 64) × ((n < length (now pack) / 64) × (count ≡ layoutOf (byteOf (now pack) n 0) .identities)) ⌝ }
+    ensures { λ r. ⌜ Decides (run (identityChecks (now (pack .entry)) (now (batch .entry)) (now (house .entry)) n) 0 count) r ⌝ }
+{
+    let mut j = 0;
+    while j < count {
+        let found = check_identity(pack, batch, house, n, start, j);
+        let Outcome::Passed = found else {
+            return found;
+        };
+        j += 1;
+    }
+    Outcome::Passed
+}
+
+// The checks of record n.
+fn check_record<'a>(
+    kind: PackKind,
+    pack: &'a [u8],
+    batch: &'a [u8],
+    house: &'a [u8],
+    n: u32,
+    table: u8,
+    start: usize,
+) -> Outcome
+    requires { ⌜ recordAt (now pack) n ≡ Record.At table start ⌝ }
+    ensures { λ r. ⌜ Decides (recordChecks kind (now (pack .entry)) (now (batch .entry)) (now (house .entry)) n) r ⌝ }
+{
+    if !in_place(kind, pack, n, table) {
+        return Outcome::Refused(Refusal::TableOutOfPlace { record: n });
+    }
+    if !clean(pack, n as usize) {
+        return Outcome::Refused(Refusal::StrayByte { record: n });
+    }
+    check_identities(pack, batch, house, n, start, shape_of(table).identities)
+}
+
+// Record by record, until the walker is at the end.
+fn check_records<'a>(
+    kind: PackKind,
+    pack: &'a [u8],
+    batch: &'a [u8],
+    house: &'a [u8],
+) -> Outcome
+    requires { ⌜ packFits (now pack) ≡ true ⌝ }
+    ensures { λ r. ⌜ Decides (run (recordChecks kind (now (pack .entry)) (now (batch .entry)) (now (house .entry))) 0 (length (now (pack .entry)) / 64)) r ⌝ }
+{
+    let mut n: usize = 0;
+    loop {
+        let record = record_by_walker(pack, n);
+        let Record::At { table, start } = record else {
+            return Outcome::Passed;
+        };
+        let found = check_record(kind, pack, batch, house, n as u32, table, start);
+        let Outcome::Passed = found else {
+            return found;
+        };
+        n += 1;
+    }
+}
+
+// The packing rules of a pack over its two texts.
+pub fn check_packing<'a>(
+    kind: PackKind,
+    pack: &'a [u8],
+    batch: &'a [u8],
+    house: &'a [u8],
+) -> Outcome
+    ensures { λ r. ⌜ r ≡ first (packingChecks kind (now (pack .entry)) (now (batch .entry)) (now (house .entry))) ⌝ }
+{
+    if !pack_fits(pack) {
+        return Outcome::Refused(Refusal::Length);
+    }
+    if !text_fits(batch) {
+        return Outcome::Refused(Refusal::TextTooLong { text: 0 });
+    }
+    if !text_fits(house) {
+        return Outcome::Refused(Refusal::TextTooLong { text: 1 });
+    }
+    check_records(kind, pack, batch, house)
+}

@@ -1,0 +1,161 @@
+// Readers of single fields of a row, by slice and record number: what a check needs of a row that another row names.
+ghost use mathlib.Core.Path.{_≡_};
+ghost use Prim.Native.Nat.{_+_, _*_, _<_};
+ghost use Rattle.schema.specs.Number.{number};
+ghost use Rattle.schema.specs.Rows.{byteOf, enclaveAt, reactorAt, actionAt, portAt, reactionAt, scopeAt, bindingAt};
+use crate::index::BindingKind;
+use crate::index::MaybeMode;
+use crate::index::MaybeScope;
+use crate::index::ReactorIndex;
+use crate::read::bit;
+use crate::read::byte_of;
+use crate::read::kind_of;
+use crate::read::long_of;
+use crate::read::maybe_mode;
+use crate::read::maybe_scope;
+use crate::read::word_of;
+use range::IndexSpan;
+use range::ModeSpan;
+use range::SliceRange;
+
+// Byte j of record n, the W and the D from byte j, for any record number.
+pub fn byte_at(p: &[u8], n: usize, j: usize) -> u8
+    requires { ⌜ j < 64 ⌝ }
+    ensures { λ r. ⌜ r ≡ byteOf (now (p .entry)) n j ⌝ }
+{
+    if p.len() / 64 < n {
+        return 0;
+    }
+    byte_of(p, n, j)
+}
+
+pub fn word_at(p: &[u8], n: usize, j: usize) -> u32
+    requires { ⌜ j < 64 ⌝ }
+    ensures { λ r. ⌜ r ≡ number 4 (now (p .entry)) (n * 64 + j) ⌝ }
+{
+    if p.len() / 64 < n {
+        return 0;
+    }
+    word_of(p, n, j)
+}
+
+pub fn long_at(p: &[u8], n: usize, j: usize) -> u64
+    requires { ⌜ j < 64 ⌝ }
+    ensures { λ r. ⌜ r ≡ number 8 (now (p .entry)) (n * 64 + j) ⌝ }
+{
+    if p.len() / 64 < n {
+        return 0;
+    }
+    long_of(p, n, j)
+}
+
+pub fn state_slots_at(p: &[u8], n: usize) -> u32
+    ensures { λ r. ⌜ r ≡ enclaveAt (now (p .entry)) n .«storage_bounds» .«state_slots» ⌝ }
+{
+    word_at(p, n, 12)
+}
+
+pub fn action_slots_at(p: &[u8], n: usize) -> u32
+    ensures { λ r. ⌜ r ≡ enclaveAt (now (p .entry)) n .«storage_bounds» .«action_slots» ⌝ }
+{
+    word_at(p, n, 16)
+}
+
+pub fn reactor_modes_at(p: &[u8], n: usize) -> ModeSpan
+    ensures { λ r. ⌜ r ≡ reactorAt (now (p .entry)) n .modes ⌝ }
+{
+    ModeSpan(IndexSpan {
+        start: long_at(p, n, 16),
+        len: long_at(p, n, 24),
+    })
+}
+
+pub fn action_triggers_at(p: &[u8], n: usize) -> SliceRange
+    ensures { λ r. ⌜ r ≡ actionAt (now (p .entry)) n .triggers ⌝ }
+{
+    SliceRange {
+        start: word_at(p, n, 24),
+        len: word_at(p, n, 28),
+    }
+}
+
+pub fn port_triggers_at(p: &[u8], n: usize) -> SliceRange
+    ensures { λ r. ⌜ r ≡ portAt (now (p .entry)) n .triggers ⌝ }
+{
+    SliceRange {
+        start: word_at(p, n, 12),
+        len: word_at(p, n, 16),
+    }
+}
+
+pub fn reaction_reactor_at(p: &[u8], n: usize) -> ReactorIndex
+    ensures { λ r. ⌜ r ≡ reactionAt (now (p .entry)) n .reactor ⌝ }
+{
+    ReactorIndex(word_at(p, n, 4))
+}
+
+pub fn reaction_level_at(p: &[u8], n: usize) -> u32
+    ensures { λ r. ⌜ r ≡ reactionAt (now (p .entry)) n .«dependency_level» ⌝ }
+{
+    word_at(p, n, 12)
+}
+
+pub fn reaction_enabled_modes_at(p: &[u8], n: usize) -> SliceRange
+    ensures { λ r. ⌜ r ≡ reactionAt (now (p .entry)) n .«enabled_modes» ⌝ }
+{
+    SliceRange {
+        start: word_at(p, n, 44),
+        len: word_at(p, n, 48),
+    }
+}
+
+pub fn scope_parent_at(p: &[u8], n: usize) -> MaybeScope
+    ensures { λ r. ⌜ r ≡ scopeAt (now (p .entry)) n .parent ⌝ }
+{
+    maybe_scope(bit(byte_at(p, n, 1), 1), word_at(p, n, 4))
+}
+
+pub fn scope_reactor_at(p: &[u8], n: usize) -> ReactorIndex
+    ensures { λ r. ⌜ r ≡ scopeAt (now (p .entry)) n .reactor ⌝ }
+{
+    ReactorIndex(word_at(p, n, 8))
+}
+
+pub fn scope_mode_at(p: &[u8], n: usize) -> MaybeMode
+    ensures { λ r. ⌜ r ≡ scopeAt (now (p .entry)) n .mode ⌝ }
+{
+    maybe_mode(bit(byte_at(p, n, 1), 2), word_at(p, n, 12))
+}
+
+pub fn scope_reset_reactions_at(p: &[u8], n: usize) -> SliceRange
+    ensures { λ r. ⌜ r ≡ scopeAt (now (p .entry)) n .«reset_reactions» ⌝ }
+{
+    SliceRange {
+        start: word_at(p, n, 40),
+        len: word_at(p, n, 44),
+    }
+}
+
+pub fn scope_startup_reactions_at(p: &[u8], n: usize) -> SliceRange
+    ensures { λ r. ⌜ r ≡ scopeAt (now (p .entry)) n .«startup_reactions» ⌝ }
+{
+    SliceRange {
+        start: word_at(p, n, 48),
+        len: word_at(p, n, 52),
+    }
+}
+
+pub fn scope_shutdown_reactions_at(p: &[u8], n: usize) -> SliceRange
+    ensures { λ r. ⌜ r ≡ scopeAt (now (p .entry)) n .«shutdown_reactions» ⌝ }
+{
+    SliceRange {
+        start: word_at(p, n, 56),
+        len: word_at(p, n, 60),
+    }
+}
+
+pub fn binding_kind_at(p: &[u8], n: usize) -> BindingKind
+    ensures { λ r. ⌜ r ≡ bindingAt (now (p .entry)) n .kind ⌝ }
+{
+    kind_of(byte_at(p, n, 2))
+}
