@@ -6,6 +6,7 @@ use lib.Dec.{ltb, leb, eqb}
 use Rattle.range.specs.declared.CheckedEnd.{CheckedEnd}
 use Rattle.range.specs.declared.CheckedEnd.the-variants.{End, NoEnd}
 use Rattle.range.specs.declared.SliceRange.{SliceRange}
+use Rattle.range.specs.declared.IndexSpan.{IndexSpan}
 use Rattle.range.specs.Range.{checkedEnd, saturatingEnd}
 use Rattle.answers.specs.declared.Refusal.the-variants.{TableTooLarge, ReferenceOutOfBounds, RangeOutOfBounds, RangesNotMonotonic}
 use Rattle.answers.specs.declared.Outcome.{Outcome}
@@ -46,7 +47,13 @@ spanChecks rows t i f g start len previous =
 abbrev pub rangeChecks : (ℕ → ℕ) → ℕ → ℕ → ℕ → ℕ → SliceRange → ℕ → List Check
 rangeChecks rows t i f g r previous = spanChecks rows t i f g (r .start) (r .len) previous
 
+-- where a range, or a span, ends
+abbrev pub rangeEnd : SliceRange → ℕ
+rangeEnd r = saturatingEnd (r .start) (r .len)
+
+abbrev pub spanEnd : IndexSpan → ℕ
+spanEnd r = saturatingEnd (r .start) (r .len)
+
 -- where row i - 1's range ends; 0 before the first row
-abbrev pub endBefore : (ℕ → SliceRange) → ℕ → ℕ
-endBefore range i =
-    cond (eqb i 0) 0 (saturatingEnd (range (i - 1) .start) (range (i - 1) .len))
+abbrev pub endBefore : (ℕ → ℕ) → ℕ → ℕ
+endBefore end i = cond (eqb i 0) 0 (end (i - 1))

@@ -1,9 +1,9 @@
 -- What the packing rules ask of a table's layout: how many bytes it uses, and which bytes a presence bit governs. Assumes nothing.
-use Prim.Native.Nat.{ℕ, zero, suc, _+_, _/_, _%_}
-use mathlib.Core.Bool.{Bool, true, false, cond}
+use Prim.Native.Nat.{ℕ, _+_, _/_, _%_}
+use mathlib.Core.Bool.{Bool, false, cond}
 use mathlib.Core.List.{List, [], _∷_}
 use lib.Dec.{eqb}
-use lib.ListN.{getD, length}
+use lib.ListN.{getD}
 use Rattle.schema.specs.Layout.{Field, W, D, W-if, bytes, Layout, plain, layouts}
 use Rattle.packing.specs.declared.shape.Governed.{Governed}
 use Rattle.packing.specs.declared.shape.Shape.{Shape}

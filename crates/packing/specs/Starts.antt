@@ -1,6 +1,6 @@
 -- Where each table of an enclave begins. Assumes nothing.
 use Prim.Native.Nat.{ℕ, zero, suc, _+_, _/_}
-use mathlib.Core.Bool.{Bool, true, false, not, _||_, cond}
+use mathlib.Core.Bool.{Bool, not, _||_, cond}
 use mathlib.Core.List.{List, [], _∷_, _++_}
 use lib.Dec.{ltb, leb}
 use lib.ListN.{length}

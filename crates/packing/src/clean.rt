@@ -1,9 +1,8 @@
 // A record without stray bytes, bits or kinds, whose absent fields are zero (refusal 4).
 ghost use mathlib.Core.Path.{_≡_};
 ghost use mathlib.Core.Bool.{true, not, _&&_, _||_, cond};
-ghost use Prim.Native.Nat.{_+_, _*_, _-_, _<_, _≤_, _^_};
+ghost use Prim.Native.Nat.{_+_, _*_, _-_, _<_, _^_};
 ghost use lib.Dec.{ltb, leb, eqb};
-ghost use Rattle.schema.specs.Rows.{bitOf};
 ghost use Rattle.packing.specs.Clean.{zeros, clean};
 use crate::shape::Governed;
 use crate::shape::Shape;

@@ -1,7 +1,7 @@
 // The packing rules: lengths, then record by record the table's place, stray bytes, and each identity's text.
 ghost use mathlib.Core.Path.{_≡_};
 ghost use mathlib.Core.Bool.{true};
-ghost use Prim.Native.Nat.{_*_, _/_, _<_, _≤_, _^_};
+ghost use Prim.Native.Nat.{_*_, _/_, _<_, _≤_};
 ghost use lib.ListN.{length};
 ghost use Rattle.answers.specs.Checks.{first, run, Decides};
 ghost use Rattle.schema.specs.Rows.{byteOf, bitOf};
@@ -165,12 +165,7 @@ fn check_record<'a>(
 }
 
 // Record by record, until the walker is at the end.
-fn check_records<'a>(
-    kind: PackKind,
-    pack: &'a [u8],
-    batch: &'a [u8],
-    house: &'a [u8],
-) -> Outcome
+fn check_records<'a>(kind: PackKind, pack: &'a [u8], batch: &'a [u8], house: &'a [u8]) -> Outcome
     requires { ⌜ packFits (now pack) ≡ true ⌝ }
     ensures { λ r. ⌜ Decides (run (recordChecks kind (now (pack .entry)) (now (batch .entry)) (now (house .entry))) 0 (length (now (pack .entry)) / 64)) r ⌝ }
 {

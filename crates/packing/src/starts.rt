@@ -1,12 +1,9 @@
 // Where each table of an enclave begins, in one pass over its records.
 ghost use mathlib.Core.Path.{_≡_};
-ghost use Prim.Native.Nat.{_≤_};
-ghost use Rattle.packing.specs.Starts.{recordsOf, reaches, tableStarts};
+ghost use Rattle.packing.specs.Starts.{reaches, tableStarts};
 use crate::walker::Record;
 use crate::walker::record_by_walker;
-
-// The starts of tables 0 to 24, and the enclave's end.
-pub type TableStarts = [u32; 26];
+use schema::TableStarts;
 
 const MAX_RECORDS: usize = 65536;
 

@@ -1,49 +1,47 @@
+-- `packing::rules::check_identity` meets its contract. Assumes nothing.
+use mathlib.Core.Path.{_∙_, ap}
+use denote.Ref.{now}
 use borrow.Author.Needs.{needs}
+use Rattle.identity.specs.declared.IdentityPlace.{IdentityPlace}
+use Rattle.identity.specs.Utf8.{utf8}
+use Rattle.identity.specs.Text.{placeInside, identityText}
+use Rattle.answers.proofs.Laws.{none, pass, fail}
+use Rattle.packing.proofs.Tests.{held, refused}
 use Rattle.packing.proofs.rules.check_identity.Statement.{statement}
 use Rattle.packing.proofs.rules.check_identity.Tie as tie
-use Rattle.packing.proofs.rules.check_identity.Reads as reads
-use Rattle.packing.proofs.rules.check_identity.Lts as lts
-use Rattle.identity.proofs.identity_text.Reads as identity-text-reads
-use Rattle.identity.proofs.is_utf8.Reads as is-utf8-reads
-use Rattle.identity.proofs.place_inside.Reads as place-inside-reads
-use Rattle.packing.proofs.rules.identity_at.Reads as identity-at-reads
 
--- src/rules.rt:112:9
-identity-at-requires : tie.Need-identity-at-requires
-identity-at-requires c κs = search needs
-
--- src/rules.rt:113:9
-place-inside-requires : tie.Need-place-inside-requires
-place-inside-requires c κs = search needs
-
--- src/rules.rt:114:9
 returns : tie.Need-returns
-returns c = ?
+returns c =
+    let a = c .before .before .before .before .before .before .args in
+    let e = c .before .before .identity-at .ensures in
+    fail (refused (c .before .place-inside .ensures ∙ ap (placeInside (now (a .batch)) (now (a .house))) e) (c .if1 .taken))
 
--- src/rules.rt:116:27
-identity-text-requires : tie.Need-identity-text-requires
-identity-text-requires c κs = search needs
-
--- src/rules.rt:116:9
-is-utf8-requires : tie.Need-is-utf8-requires
-is-utf8-requires c κs = search needs
-
--- src/rules.rt:117:9
 returns-2 : tie.Need-returns-2
-returns-2 c = ?
+returns-2 c =
+    let s = c .before .before .before in
+    let a = s .before .before .before .before .before .before .args in
+    let e = s .before .before .identity-at .ensures in
+    let t = c .before .is-utf8 .ensures ∙ ap utf8 (c .before .before .identity-text .ensures .0) in
+    pass (held (s .before .place-inside .ensures ∙ ap (placeInside (now (a .batch)) (now (a .house))) e) (s .if1 .left))
+    (fail (refused (t ∙ ap (λ (x : IdentityPlace). utf8 (identityText (now (a .batch)) (now (a .house)) x)) e) (c .if2 .taken)))
 
--- src/rules.rt:101:1
 returns-3 : tie.Need-returns-3
-returns-3 c = ?
+returns-3 c =
+    let s = c .before .before .before in
+    let a = s .before .before .before .before .before .before .args in
+    let e = s .before .before .identity-at .ensures in
+    let t = c .before .is-utf8 .ensures ∙ ap utf8 (c .before .before .identity-text .ensures .0) in
+    pass (held (s .before .place-inside .ensures ∙ ap (placeInside (now (a .batch)) (now (a .house))) e) (s .if1 .left))
+    (pass (held (t ∙ ap (λ (x : IdentityPlace). utf8 (identityText (now (a .batch)) (now (a .house)) x)) e) (c .if2 .left)) none)
 
 pub check-identity-spec : {M : Type 1} → statement M
 check-identity-spec =
     tie.close
     (tie.spec
-    identity-at-requires
-    place-inside-requires
+    (λ c κs. search needs)
+    (λ c κs. search needs)
     returns
-    identity-text-requires
-    is-utf8-requires
+    (λ c κs. search needs)
+    (λ c κs. search needs)
     returns-2
     returns-3)

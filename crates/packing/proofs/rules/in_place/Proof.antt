@@ -1,48 +1,35 @@
+-- `packing::rules::in_place` meets its contract. Assumes nothing.
+use Prim.Native.Nat.{ℕ, zero, suc, _-_}
+use mathlib.Core.Bool.{Bool}
+use mathlib.Core.Path.{_≡_, refl, _∙_}
+use mathlib.Core.List.{List}
+use native.Mathlib.Omega.{arith}
+use lib.Dec.{eqb}
 use borrow.Author.Needs.{needs}
+use Rattle.schema.specs.Rows.{byteOf}
+use Rattle.packing.specs.declared.PackKind.{PackKind}
+use Rattle.packing.specs.Packing.{firstTable, tableAfter, inPlace}
 use Rattle.packing.proofs.rules.in_place.Statement.{statement}
 use Rattle.packing.proofs.rules.in_place.Tie as tie
-use Rattle.packing.proofs.rules.in_place.Reads as reads
-use Rattle.packing.proofs.rules.in_place.Lts as lts
-use Rattle.packing.proofs.rules.first_table.Reads as first-table-reads
-use Rattle.packing.proofs.rules.table_after.Reads as table-after-reads
-use Rattle.schema.proofs.read.byte_of.Reads as byte-of-reads
 
--- src/rules.rt:73:25
-first-table-requires : tie.Need-first-table-requires
-first-table-requires c κs = search needs
+first : (kind : PackKind) (p : List ℕ) (n t f : ℕ) → n ≡ 0 → t ≡ byteOf p n 0 → f ≡ firstTable kind → eqb t f ≡ inPlace kind p n
+first kind p zero t f z e g = rw (e, g)
+first kind p (suc n) t f z e g = absurd (omega arith)
 
--- src/rules.rt:73:9
-returns : tie.Need-returns
-returns c = ?
-
--- src/rules.rt:75:18
-sub-before : tie.Need-sub-before
-sub-before c = search needs
-
--- src/rules.rt:76:37
-cast-byte-of : tie.Need-cast-byte-of
-cast-byte-of c = search needs
-
--- src/rules.rt:76:23
-byte-of-requires : tie.Need-byte-of-requires
-byte-of-requires c κs = search needs
-
--- src/rules.rt:76:5
-table-after-requires : tie.Need-table-after-requires
-table-after-requires c κs = search needs
-
--- src/rules.rt:68:1
-returns-2 : tie.Need-returns-2
-returns-2 c = ?
+later : (kind : PackKind) (p : List ℕ) (n t u : ℕ) (r : Bool) → (n ≡ 0 → ⊥) → t ≡ byteOf p n 0 → u ≡ byteOf p (n - 1) 0 → r ≡ tableAfter kind u t → r ≡ inPlace kind p n
+later kind p zero t u r z e f g = absurd (z refl)
+later kind p (suc n) t u r z e f g =
+    let m : suc n - 1 ≡ n = omega arith in
+    g ∙ rw (e, f, m)
 
 pub in-place-spec : {M : Type 1} → statement M
 in-place-spec =
     tie.close
     (tie.spec
-    first-table-requires
-    returns
-    sub-before
-    cast-byte-of
-    byte-of-requires
-    table-after-requires
-    returns-2)
+    (λ c κs. search needs)
+    (λ c. first _ _ _ _ _ (c .before .if1 .taken) (c .before .before .before .pre .1) (c .first-table .ensures))
+    (λ c. search needs)
+    (λ c. search needs)
+    (λ c κs. search needs)
+    (λ c κs. search needs)
+    (λ c. later _ _ _ _ _ _ (c .before .before .if1 .left) (c .before .before .before .before .pre .1) (c .before .byte-of .ensures) (c .table-after .ensures)))

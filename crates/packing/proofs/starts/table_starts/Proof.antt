@@ -1,58 +1,30 @@
+-- `packing::starts::table_starts` meets its contract. Assumes nothing.
+use Prim.Native.Nat.{_-_, _+_, _<_}
+use mathlib.Core.Bool.{false}
+use mathlib.Core.Path.{_≡_, refl}
+use native.Mathlib.Omega.{arith}
+use borrow.Author.Needs.{needs}
+use denote.Ref.{now}
+use Rattle.packing.specs.Starts.{recordsOf, reaches}
+use Rattle.packing.proofs.Tests.{held, refused}
+use Rattle.packing.proofs.TableStarts.{Fixed, fixed-none, fixed-move, fixed-next, fixed-all, not-reached, records-few}
 use Rattle.packing.proofs.starts.table_starts.Statement.{statement}
 use Rattle.packing.proofs.starts.table_starts.Tie as tie
-use Rattle.packing.proofs.starts.table_starts.Reads as reads
-use Rattle.packing.proofs.starts.table_starts.Lts as lts
-use Rattle.packing.proofs.starts.reaches.Reads as reaches-reads
 
 abbrev Inv-loop : tie.InvT-loop
-Inv-loop p rows starts₀ t₀ k₀ starts t k = ?
+Inv-loop p rows starts₀ t₀ k₀ starts t k = Fixed p rows starts t k
 
 abbrev μ-loop : tie.MeasureT-loop
-μ-loop p rows starts₀ t₀ k₀ starts t k = ?
+μ-loop p rows starts₀ t₀ k₀ starts t k = (26 - t) + (recordsOf p - k)
 
--- src/starts.rt:36:5
-loop-holds : tie.Need-loop-holds Inv-loop μ-loop
-loop-holds c = ?
+passed : (c : tie.Then1 Inv-loop μ-loop) → reaches (now (c .before .before .before .before .before .args .p)) (c .before .before .before .loop .t) (c .before .before .before .loop .k) ≡ false
+passed c = refused (c .before .reaches .ensures) (c .if1 .taken)
 
--- src/starts.rt:37:13
-reaches-requires : tie.Need-reaches-requires Inv-loop μ-loop
-reaches-requires c κs = ?
-
--- src/starts.rt:38:13
-add-k : tie.Need-add-k Inv-loop μ-loop
-add-k c = ?
-
--- src/starts.rt:36:5
-loop-less : tie.Need-loop-less Inv-loop μ-loop
-loop-less c = ?
-
--- src/starts.rt:36:5
-loop-again : tie.Need-loop-again Inv-loop μ-loop
-loop-again c = ?
-
--- src/starts.rt:41:9
-mul-starts : tie.Need-mul-starts Inv-loop μ-loop
-mul-starts c = ?
-
--- src/starts.rt:41:9
-array-write-starts : tie.Need-array-write-starts Inv-loop μ-loop
-array-write-starts c = ?
-
--- src/starts.rt:42:9
-add-t : tie.Need-add-t Inv-loop μ-loop
-add-t c = ?
-
--- src/starts.rt:36:5
-loop-less-2 : tie.Need-loop-less-2 Inv-loop μ-loop
-loop-less-2 c = ?
-
--- src/starts.rt:36:5
-loop-again-2 : tie.Need-loop-again-2 Inv-loop μ-loop
-loop-again-2 c = ?
-
--- src/starts.rt:30:1
-returns : tie.Need-returns Inv-loop μ-loop
-returns c = ?
+-- the record is passed: it lies inside
+inside : (c : tie.Then1 Inv-loop μ-loop) → c .before .before .before .loop .k < recordsOf (now (c .before .before .before .before .before .args .p))
+inside c =
+    let l = c .before .before .before .loop in
+    not-reached (now (c .before .before .before .before .before .args .p)) (l .t) (l .k) (passed c) .0
 
 pub table-starts-spec : {M : Type 1} → statement M
 table-starts-spec =
@@ -60,14 +32,14 @@ table-starts-spec =
     (tie.spec
     Inv-loop
     μ-loop
-    loop-holds
-    reaches-requires
-    add-k
-    loop-less
-    loop-again
-    mul-starts
-    array-write-starts
-    add-t
-    loop-less-2
-    loop-again-2
-    returns)
+    (λ c. fixed-none _ _ _ refl)
+    (λ c κs. search needs)
+    (λ c. omega (arith, inside c, records-few (now (c .before .before .before .before .before .args .p))))
+    (λ c. omega (arith, inside c))
+    (λ c. fixed-move (c .before .before .before .loop .inv) (passed c))
+    (λ c. search needs)
+    (λ c. let z = c .before .before .before .loop .inv .sized in omega arith)
+    (λ c. search needs)
+    (λ c. search needs)
+    (λ c. fixed-next (c .before .before .before .loop .inv) (search needs) (held (c .before .reaches .ensures) (c .if1 .left)))
+    (λ c. fixed-all (c .before .loop .inv) (search needs)))

@@ -1,0 +1,5 @@
+pub mod Tests
+pub mod Tables
+pub mod Zeros
+pub mod Records
+pub mod TableStarts

@@ -1,0 +1,185 @@
+-- Where a table begins: the record that reaches it first. Assumes nothing.
+use Prim.Native.Nat.{ℕ, zero, suc, _+_, _-_, _/_, _<_, _≤_}
+use mathlib.Core.Bool.{Bool, true, false, not, _||_, cond, true≢false}
+use mathlib.Core.Path.{_≡_, refl, _∙_, sym}
+use mathlib.Core.List.{List, [], _∷_}
+use native.Mathlib.Numerals.{add-one}
+use native.Mathlib.Omega.{arith}
+use lib.Dec.{ltb, leb}
+use lib.ListN.{length, getD, take, set, length-set, length-append, List·getD-append}
+use lib.Seq.{getD-at, take-suc-set, take-all}
+use borrow.Author.Tests.{ltb-true, ltb-false, leb-false, lt-ltb, le-ltb, lt-leb}
+use Rattle.schema.specs.Rows.{byteOf}
+use Rattle.packing.proofs.Tests.{cases}
+use Rattle.packing.specs.Starts.{recordsOf, reaches, firstReaching, tableStart, startsBelow, tableStarts}
+
+reaching : (a b : Bool) (d e : ℕ) → not a || (b || leb d e) ≡ false → (a ≡ true) × (e < d)
+reaching true true d e h = absurd (true≢false h)
+reaching true false d e h = (refl, leb-false d e h)
+reaching false b d e h = absurd (true≢false h)
+
+-- how many records are looked at
+least : (n m k : ℕ) → (cond (ltb n m) n m ≤ n) × ((cond (ltb n m) n m ≤ m) × (k < n → k < m → k < cond (ltb n m) n m))
+least n m k =
+    cases (ltb n m)
+    (λ b. let h = ltb-true n m b in rw b (omega arith, (omega arith, λ x y. x)))
+    (λ b. let h = ltb-false n m b in rw b (h, (omega arith, λ x y. y)))
+
+module _ (p : List ℕ) where
+  pub records-few : recordsOf p ≤ 65536
+  records-few = least (length p / 64) 65536 0 .1 .0
+
+  -- a record past the last reaches every table; any other by its own
+  pub past-reaches : (t k : ℕ) → length p / 64 ≤ k → true ≡ reaches p t k
+  past-reaches t k h =
+      let f = least (length p / 64) 65536 0 in
+      rw (le-ltb k (recordsOf p) (omega arith))
+
+  pub limit-reaches : (t k : ℕ) → 65536 ≤ k → true ≡ reaches p t k
+  limit-reaches t k h =
+      let f = least (length p / 64) 65536 0 in
+      rw (le-ltb k (recordsOf p) (omega arith))
+
+  pub inside-reaches : (t k u : ℕ) → k < length p / 64 → k < 65536 → u ≡ byteOf p k 0 → (ltb u 2 || leb t u) ≡ reaches p t k
+  inside-reaches t k u h l e = rw (lt-ltb k (recordsOf p) (least (length p / 64) 65536 k .1 .1 h l), e)
+
+  -- a record that does not reach table t lies inside and is of an earlier one
+  pub not-reached : (t k : ℕ) → reaches p t k ≡ false → (k < recordsOf p) × (byteOf p k 0 < t)
+  not-reached t k h =
+      let r = reaching (ltb k (recordsOf p)) (ltb (byteOf p k 0) 2) t (byteOf p k 0) h in
+      (ltb-true k (recordsOf p) (r .0), r .1)
+
+  -- nor does it reach a later table
+  later : (a b : Bool) (d e x : ℕ) → d ≤ e → not a || (b || leb d x) ≡ false → not a || (b || leb e x) ≡ false
+  later true true d e x l h = h
+  later true false d e x l h = let g = leb-false d x h in lt-leb e x (omega arith)
+  later false b d e x l h = h
+
+  pub not-later : (t u k : ℕ) → t ≤ u → reaches p t k ≡ false → reaches p u k ≡ false
+  not-later t u k l h = later (ltb k (recordsOf p)) (ltb (byteOf p k 0) 2) t u (byteOf p k 0) l h
+
+-- none of the records from a up to k reaches table t
+pub record Short (p : List ℕ) (t a k : ℕ) : Type 0 where
+  pub from : a ≤ k
+  pub none : (j : ℕ) → a ≤ j → j < k → reaches p t j ≡ false
+
+pub short-none : (p : List ℕ) (t a : ℕ) → Short p t a a
+short-none p t a = record { from = omega arith; none = λ j l h. absurd (omega arith) }
+
+pub short-more : {p : List ℕ} {t a k : ℕ} → Short p t a k → reaches p t k ≡ false → Short p t a (k + 1)
+short-more {p} {t} {a} {k} s r =
+    record {
+      from = let g = s .from in omega arith;
+      none = λ j l h. cases (ltb j k) (λ b. s .none j l (ltb-true j k b)) (λ b. let g = ltb-false j k b in let e : j ≡ k = omega arith in rw e r);
+    }
+
+pub short-later : {p : List ℕ} {t a k : ℕ} → Short p t a k → Short p (t + 1) a k
+short-later {p} {t} {a} {k} s =
+    record { from = s .from; none = λ j l h. not-later p t (t + 1) j (omega arith) (s .none j l h) }
+
+first-found : (p : List ℕ) (t f a k : ℕ) → Short p t a k → k ≤ a + f → reaches p t k ≡ true → firstReaching p t a f ≡ k
+unfolding firstReaching
+first-found p t zero a k s l r = let g = s .from in omega arith
+first-found p t (suc f) a k s l r =
+    cases (ltb a k)
+    (λ b. let h = ltb-true a k b in rw (s .none a (omega arith) h) (first-found p t f (a + 1) k (record { from = omega arith; none = λ j i m. s .none j (omega arith) m }) (omega arith) r))
+    (λ b. let h = ltb-false a k b in let g = s .from in let e : a ≡ k = omega arith in rw (e, r))
+
+pub start-found : {p : List ℕ} {t a k : ℕ} → Short p t a k → k ≤ a + recordsOf p → reaches p t k ≡ true → tableStart p a t ≡ k
+start-found {p} {t} {a} {k} s l r = first-found p t (recordsOf p) a k s l r
+
+module _ (p : List ℕ) where
+  first-from : (t f a : ℕ) → a ≤ firstReaching p t a f
+  unfolding firstReaching
+  first-from t zero a = omega arith
+  first-from t (suc f) a =
+      cases (reaches p t a) (λ r. rw r (omega arith)) (λ r. rw r (let g = first-from t f (a + 1) in omega arith))
+
+  first-within : (t f a : ℕ) → a ≤ recordsOf p → firstReaching p t a f ≤ recordsOf p
+  unfolding firstReaching
+  first-within t zero a h = h
+  first-within t (suc f) a h =
+      cases (reaches p t a) (λ r. rw r h) (λ r. rw r (let g = not-reached p t a r .0 in first-within t f (a + 1) (omega arith)))
+
+  first-rises : (t u f a : ℕ) → t ≤ u → firstReaching p t a f ≤ firstReaching p u a f
+  unfolding firstReaching
+  first-rises t u zero a l = omega arith
+  first-rises t u (suc f) a l =
+      cases (reaches p t a)
+      (λ r. rw r (first-from u (suc f) a))
+      (λ r. rw (r, not-later p t u a l r) (first-rises t u f (a + 1) l))
+
+-- the list of starts
+below-length : (p : List ℕ) (rows k : ℕ) → length (startsBelow p rows k) ≡ k
+unfolding startsBelow
+below-length p rows zero = refl
+below-length p rows (suc k) = simp length-append (omega (arith, below-length p rows k))
+
+below-at : (p : List ℕ) (rows k t : ℕ) → t < k → getD (startsBelow p rows k) t 0 ≡ tableStart p rows t
+unfolding startsBelow
+below-at p rows zero t h = absurd (omega arith)
+below-at p rows (suc k) t h =
+    let n = below-length p rows k in
+    cases (ltb t k)
+    (λ b. let l = ltb-true t k b in List·getD-append (startsBelow p rows k) (tableStart p rows k ∷ []) 0 t (omega arith) ∙ below-at p rows k t l)
+    (λ b. let l = ltb-false t k b in let e : t ≡ k = omega arith in rw e (getD-at (startsBelow p rows k) (tableStart p rows k) [] 0 k n))
+
+module _ (p : List ℕ) (rows : ℕ) where
+  pub starts-length : length (tableStarts p rows) ≡ 26
+  unfolding tableStarts
+  starts-length = below-length p rows 26
+
+  pub starts-at : (t : ℕ) → t < 26 → getD (tableStarts p rows) t 0 ≡ tableStart p rows t
+  unfolding tableStarts
+  starts-at t h = below-at p rows 26 t h
+
+  -- each start is at least `rows`, and inside the pack where `rows` is
+  pub starts-from : (t : ℕ) → t < 26 → rows ≤ getD (tableStarts p rows) t 0
+  starts-from t h = rw (starts-at t h) (first-from p t (recordsOf p) rows)
+
+  pub starts-within : (t : ℕ) → t < 26 → rows ≤ recordsOf p → getD (tableStarts p rows) t 0 ≤ recordsOf p
+  starts-within t h l = rw (starts-at t h) (first-within p t (recordsOf p) rows l)
+
+  -- the starts rise
+  pub starts-rise : (t u : ℕ) → t ≤ u → u < 26 → getD (tableStarts p rows) t 0 ≤ getD (tableStarts p rows) u 0
+  starts-rise t u l h =
+      let m : t < 26 = omega arith in
+      rw (starts-at t m, starts-at u h) (first-rises p t u (recordsOf p) rows l)
+
+-- the loop: the starts of the tables below t stand in s, and no record before k reaches table t
+pub record Fixed (p : List ℕ) (rows : ℕ) (s : List ℕ) (t k : ℕ) : Type 0 where
+  pub within : t ≤ 26
+  pub sized : length s ≡ 26
+  pub done : take t s ≡ startsBelow p rows t
+  pub near : k ≤ rows + recordsOf p
+  pub short : Short p t rows k
+
+pub fixed-none : (p : List ℕ) (rows : ℕ) (s : List ℕ) → length s ≡ 26 → Fixed p rows s 0 rows
+unfolding startsBelow
+fixed-none p rows s e = record { within = omega arith; sized = e; done = refl; near = omega arith; short = short-none p 0 rows }
+
+pub fixed-move : {p : List ℕ} {rows : ℕ} {s : List ℕ} {t k : ℕ} → Fixed p rows s t k → reaches p t k ≡ false → Fixed p rows s t (k + 1)
+fixed-move {p} {rows} {s} {t} {k} f r =
+    let g = not-reached p t k r .0 in
+    record { within = f .within; sized = f .sized; done = f .done; near = omega arith; short = short-more (f .short) r }
+
+pub fixed-next : {p : List ℕ} {rows : ℕ} {s : List ℕ} {t k : ℕ} → Fixed p rows s t k → t < 26 → reaches p t k ≡ true → Fixed p rows (set s t k) (t + 1) k
+unfolding startsBelow
+fixed-next {p} {rows} {s} {t} {k} f h r =
+    let z = f .sized in
+    let l : t < length s = omega arith in
+    record {
+      within = omega arith;
+      sized = simp length-set z;
+      done = rw (add-one, take-suc-set s t k l, f .done, start-found (f .short) (f .near) r);
+      near = f .near;
+      short = short-later (f .short);
+    }
+
+pub fixed-all : {p : List ℕ} {rows : ℕ} {s : List ℕ} {t k : ℕ} → Fixed p rows s t k → 26 ≤ t → s ≡ tableStarts p rows
+unfolding tableStarts
+fixed-all {p} {rows} {s} {t} {k} f h =
+    let w = f .within in
+    let z = f .sized in
+    let e : t ≡ 26 = omega arith in
+    sym (take-all 26 s (omega arith)) ∙ (rw e at (f .done))

@@ -1,0 +1,91 @@
+-- What holds of every table's layout, by computing over the list of layouts. Assumes nothing.
+use Prim.Native.Nat.{ℕ, zero, suc, _+_, _*_, _%_, _<_, _≤_}
+use mathlib.Core.Bool.{Bool, true, _&&_}
+use mathlib.Core.Path.{_≡_, refl}
+use mathlib.Core.List.{List, [], _∷_}
+use native.Mathlib.Omega.{arith}
+use lib.Dec.{ltb, leb, eqb}
+use lib.ListN.{getD, length}
+use borrow.Author.Tests.{ltb-true, ltb-false, leb-true, eqb-true}
+use Rattle.identity.specs.declared.IdentityPlace.{IdentityPlace}
+use Rattle.schema.specs.Number.{number}
+use Rattle.schema.specs.Layout.{Layout, plain, layouts, bytes, offset, fieldAt}
+use Rattle.schema.specs.Rows.{byteOf, bitOf}
+use Rattle.packing.proofs.Tests.{cases, both}
+use Rattle.packing.specs.Shape.{layoutOf}
+use Rattle.packing.specs.Packing.{packFits, identityAt}
+
+-- inside a list any default serves
+pub getD-inside : {A : Type 0} (xs : List A) (i : ℕ) (a b : A) → i < length xs → getD xs i a ≡ getD xs i b
+getD-inside [] i a b h = absurd (omega arith)
+getD-inside (x ∷ xs) zero a b h = refl
+getD-inside (x ∷ xs) (suc i) a b h = getD-inside xs i a b (omega arith)
+
+-- a test holds of every layout of a list, and of every number below k
+every : (Layout → Bool) → List Layout → Bool
+every f [] = true
+every f (l ∷ ls) = f l && every f ls
+
+every-at : (f : Layout → Bool) (ls : List Layout) (d : Layout) (t : ℕ) → every f ls ≡ true → f d ≡ true → f (getD ls t d) ≡ true
+unfolding every
+every-at f [] d t e h = h
+every-at f (l ∷ ls) d zero e h = both (f l) (every f ls) e .0
+every-at f (l ∷ ls) d (suc t) e h = every-at f ls d t (both (f l) (every f ls) e .1) h
+
+below : (ℕ → Bool) → ℕ → Bool
+below f zero = true
+below f (suc k) = below f k && f k
+
+below-at : (f : ℕ → Bool) (k j : ℕ) → below f k ≡ true → j < k → f j ≡ true
+unfolding below
+below-at f zero j e h = absurd (omega arith)
+below-at f (suc k) j e h =
+    let b = both (below f k) (f k) e in
+    cases (ltb j k)
+    (λ t. below-at f k j (b .0) (ltb-true j k t))
+    (λ n. let l = ltb-false j k n in let q : j ≡ k = omega arith in rw q (b .1))
+
+-- identity j is two W at byte 4 + 8 j, and has a house bit
+pairAt : Layout → ℕ → Bool
+pairAt l j =
+    ltb j 8
+    && (eqb (bytes (fieldAt l (2 * j))) 4
+    && (eqb (offset l (2 * j)) (4 + 8 * j)
+    && (eqb (bytes (fieldAt l (2 * j + 1))) 4
+    && eqb (offset l (2 * j + 1)) (8 + 8 * j))))
+
+pairs : Layout → Bool
+pairs l = below (pairAt l) (l .identities)
+
+pair-at : (t j : ℕ) → j < layoutOf t .identities → pairAt (layoutOf t) j ≡ true
+unfolding layouts every below pairs pairAt
+pair-at t j h = below-at (pairAt (layoutOf t)) (layoutOf t .identities) j (every-at pairs layouts (plain []) t refl refl) h
+
+module _ (t j : ℕ) (h : j < layoutOf t .identities) where
+  parts : (ltb j 8 ≡ true) × ((eqb (bytes (fieldAt (layoutOf t) (2 * j))) 4 && (eqb (offset (layoutOf t) (2 * j)) (4 + 8 * j) && (eqb (bytes (fieldAt (layoutOf t) (2 * j + 1))) 4 && eqb (offset (layoutOf t) (2 * j + 1)) (8 + 8 * j)))) ≡ true)
+  unfolding pairAt
+  parts = both _ _ (pair-at t j h)
+
+  pub house-bit : j < 8
+  house-bit = ltb-true j 8 (parts .0)
+
+  pub identity-pair : ((bytes (fieldAt (layoutOf t) (2 * j)) ≡ 4) × (offset (layoutOf t) (2 * j) ≡ 4 + 8 * j)) × ((bytes (fieldAt (layoutOf t) (2 * j + 1)) ≡ 4) × (offset (layoutOf t) (2 * j + 1) ≡ 8 + 8 * j))
+  identity-pair =
+      let a = both _ _ (parts .1) in
+      let b = both _ _ (a .1) in
+      let d = both _ _ (b .1) in
+      ((eqb-true _ _ (a .0), eqb-true _ _ (b .0)), (eqb-true _ _ (d .0), eqb-true _ _ (d .1)))
+
+-- the place that the bytes of a record give
+pub identity-place : (p : List ℕ) (n s j : ℕ) (b : Bool) (w v : ℕ) → s ≡ n * 64 → j < layoutOf (byteOf p n 0) .identities → b ≡ bitOf (getD p (s + 1) 0) j → w ≡ number 4 p (s + 4 + 8 * j) → v ≡ number 4 p (s + 4 + 8 * j + 4) → _≡_ {A = IdentityPlace} (record { house = b; start = w; len = v }) (identityAt p n j)
+identity-place p n s j b w v e h eb ew ev =
+    let f = identity-pair (byteOf p n 0) j h in
+    let a : s + 4 + 8 * j ≡ n * 64 + offset (layoutOf (byteOf p n 0)) (2 * j) = omega arith in
+    let d : s + 4 + 8 * j + 4 ≡ n * 64 + offset (layoutOf (byteOf p n 0)) (2 * j + 1) = omega arith in
+    cc
+
+-- a pack of the right size
+pub pack-length : (p : List ℕ) → packFits p ≡ true → length p ≤ 4194304
+pack-length p e =
+    let s = both (ltb 0 (length p)) (leb (length p) 4194304 && eqb (length p % 64) 0) e .1 in
+    leb-true (length p) 4194304 (both (leb (length p) 4194304) (eqb (length p % 64) 0) s .0)

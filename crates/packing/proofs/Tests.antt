@@ -1,0 +1,19 @@
+-- Laws of truth values, and what a call's test tells of its definition. Assumes nothing.
+use mathlib.Core.Bool.{Bool, true, false, not, _&&_, true≢false}
+use mathlib.Core.Path.{_≡_, refl, _∙_, sym}
+use borrow.Author.Tests.{not-true, not-false}
+
+abbrev pub cases {ℓ} : {X : Type ℓ} (b : Bool) → (b ≡ true → X) → (b ≡ false → X) → X
+cases true t f = t refl
+cases false t f = f refl
+
+pub both : (a b : Bool) → a && b ≡ true → (a ≡ true) × (b ≡ true)
+both true b e = (refl, e)
+both false b e = let z : _≡_ {A = Bool} true false = sym e in absurd (true≢false z)
+
+-- r is the test b: `if !r` is taken where it fails, and left where it holds
+pub refused : {r b : Bool} → r ≡ b → not r ≡ true → b ≡ false
+refused {r} e n = sym e ∙ not-true r n
+
+pub held : {r b : Bool} → r ≡ b → not r ≡ false → b ≡ true
+held {r} e n = sym e ∙ not-false r n

@@ -1,0 +1,17 @@
+-- `row_checks::actions::triggers_end_before` meets its contract. Assumes nothing.
+use borrow.Author.Tests.{eq-eqb, ne-eqb}
+use borrow.Author.Needs.{needs}
+use Rattle.row_checks.proofs.actions.triggers_end_before.Statement.{statement}
+use Rattle.row_checks.proofs.actions.triggers_end_before.Tie as tie
+
+pub triggers-end-before-spec : {M : Type 1} → statement M
+triggers-end-before-spec =
+    tie.close
+    (tie.spec
+    (λ c. rw (eq-eqb _ _ (c .if1 .taken)))
+    (λ c. search needs)
+    (λ c κs. search needs)
+    (λ c κs. search needs)
+    (λ c κs. search needs)
+    (λ c κs. search needs)
+    (λ c. rw (ne-eqb _ _ (c .before .before .before .before .if1 .left), ← c .before .before .before .row-number .ensures, ← c .before .before .action-triggers-at .ensures, ← c .before .span .ensures .0, ← c .before .span .ensures .1) (c .saturating-end .ensures)))

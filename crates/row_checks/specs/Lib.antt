@@ -1,0 +1,6 @@
+pub mod Bindings
+pub mod Reactors
+pub mod Actions
+pub mod Ports
+pub mod Reactions
+pub mod Modes
