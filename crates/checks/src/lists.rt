@@ -18,7 +18,7 @@ use schema::parts;
 use schema::read_lists;
 
 // The row number shown for entry k of a range.
-fn entry_index(start: u32, k: u32) -> u32
+pub fn entry_index(start: u32, k: u32) -> u32
     ensures { λ r. ⌜ r ≡ entryIndex start k ⌝ }
 {
     ((start as u64 + k as u64) % 0x1_0000_0000) as u32
@@ -133,7 +133,7 @@ fn check_level(p: &[u8], s: &TableStarts, table: u8, start: u32, k: u32) -> Outc
     check_level_order(table, index, entry, level_entry(p, s, table, start, k - 1))
 }
 
-fn check_lifecycle(p: &[u8], s: &TableStarts, table: u8, start: u32, k: u32) -> Outcome
+pub fn check_lifecycle(p: &[u8], s: &TableStarts, table: u8, start: u32, k: u32) -> Outcome
     requires { ⌜ table < 25 ⌝ }
     ensures { λ r. ⌜ Decides (lifecycleChecks (rowsOf (now (s .entry))) (reactionsAt (now (p .entry)) (now (s .entry))) (lifecyclesAt (now (p .entry)) (now (s .entry))) table start k) r ⌝ }
 {

@@ -1,15 +1,13 @@
 -- Parent links: how many there can be, the walk that follows them, and the sum over the scopes. Assumes nothing.
 use Prim.Native.Nat.{ℕ, zero, suc, _+_, _-_, _*_, _^_, _<_, _≤_}
 use mathlib.Core.Path.{_≡_, refl, _∙_, ap, sym}
-use mathlib.Core.List.{List, []}
 use native.Mathlib.Nat.{suc-mul, mul-le-mul}
 use native.Mathlib.Numerals.{add-one}
 use native.Mathlib.Omega.{arith}
 use borrow.Author.Tests.{lt-ltb, le-ltb}
 use Rattle.answers.specs.declared.Refusal.the-variants.{ScopeParentCycle}
 use Rattle.answers.specs.declared.Outcome.{Outcome}
-use Rattle.answers.specs.declared.Outcome.the-variants.{Passed, Refused}
-use Rattle.answers.specs.Checks.{Check, first, run, Decides}
+use Rattle.answers.specs.Checks.{first, run}
 use Rattle.answers.proofs.Laws.{none, pass, fail}
 use Rattle.answers.proofs.Loops.{Remaining, remaining-start, remaining-step, remaining-stop, remaining-none}
 use Rattle.schema.specs.declared.index.ScopeIndex.{ScopeIndex}

@@ -149,12 +149,13 @@ fn check_scope_ranges(s: &TableStarts, i: u32, row: ScopeImage, ends: ScopeEnds)
 pub fn moved_ends(s: &TableStarts, i: u32, row: ScopeImage, ends: ScopeEnds) -> EndsAnswer
     ensures { λ r. ⌜ Moves (scopeRangeChecks (rowsOf (now (s .entry))) i row ends) row ends (r .ends) (r .answer) ⌝ }
 {
+    let moved = ends_of(row);
     let answer = check_scope_ranges(s, i, row, ends);
     let Outcome::Passed = answer else {
         return EndsAnswer { ends, answer };
     };
     EndsAnswer {
-        ends: ends_of(row),
+        ends: moved,
         answer,
     }
 }
@@ -163,9 +164,12 @@ pub fn moved_ends(s: &TableStarts, i: u32, row: ScopeImage, ends: ScopeEnds) -> 
 pub fn moved_row(p: &[u8], s: &TableStarts, i: u32, row: ScopeImage, ends: ScopeEnds) -> EndsAnswer
     ensures { λ r. ⌜ Moves (scopeRowChecks (image (now (p .entry)) [] [] (now (s .entry)) 0) i row ends) row ends (r .ends) (r .answer) ⌝ }
 {
-    let answer = crate::owners::check_scope_owner(p, s, i, row);
-    let Outcome::Passed = answer else {
-        return EndsAnswer { ends, answer };
+    let owner = crate::owners::check_scope_owner(p, s, i, row);
+    let Outcome::Passed = owner else {
+        return EndsAnswer {
+            ends,
+            answer: owner,
+        };
     };
     moved_ends(s, i, row, ends)
 }

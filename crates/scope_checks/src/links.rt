@@ -2,7 +2,7 @@
 ghost use mathlib.Core.Path.{_≡_};
 ghost use mathlib.Core.List.{[]};
 ghost use Rattle.answers.specs.Checks.{first, run};
-ghost use Rattle.checks.specs.Image.{image, rowsOf, scopesAt};
+ghost use Rattle.checks.specs.Image.{image, rowsOf};
 ghost use Rattle.scope_checks.specs.Links.{linksOf, parents, links, cycleChecks, parentsAnswer};
 use answers::Refusal;
 use checks::refs;

@@ -12,4 +12,4 @@ absent-clean-spec =
     (λ c. search needs)
     (λ c κs. search needs)
     (λ c κs. search needs)
-    (λ c. rw (c .before .before .before .if1 .left) (cc)))
+    (λ c. rw (c .before .before .before .if1 .left, c .zeros .ensures, c .before .wide2 .ensures .0, c .before .before .wide .ensures .0)))

@@ -9,6 +9,6 @@ kind-clean-spec =
     tie.close
     (tie.spec
     (λ c κs. search needs)
-    (λ c. rw (eq-eqb _ _ (c .before .if1 .taken)) (cc))
+    (λ c. rw (eq-eqb _ _ (c .before .if1 .taken), c .timing-clean .ensures))
     (λ c. rw (ne-eqb _ _ (c .before .if1 .left), eq-eqb _ _ (c .if2 .taken)))
     (λ c. rw (ne-eqb _ _ (c .before .if1 .left), ne-eqb _ _ (c .if2 .left))))

@@ -1,6 +1,6 @@
 -- `packing::clean::tail_clean` meets its contract. Assumes nothing.
 use Prim.Native.Nat.{_-_}
-use mathlib.Core.Path.{_≡_}
+use mathlib.Core.Path.{_≡_, _∙_}
 use native.Mathlib.Omega.{arith}
 use borrow.Author.Needs.{needs}
 use Rattle.packing.specs.Clean.{zeros}
@@ -19,5 +19,5 @@ tail-clean-spec =
     (λ c. search needs)
     (λ c. search needs)
     (λ c κs. search needs)
-    (λ c. cc)
+    (λ c. c .zeros .ensures ∙ rw (c .before .before .wide .ensures .0))
     returns-2)

@@ -16,4 +16,4 @@ identity-at-spec =
     (λ c κs. search needs)
     (λ c. search needs)
     (λ c κs. search needs)
-    (λ c. let s = c .before .before .before .before .before in identity-place _ _ _ _ _ _ _ (s .pre .0) (s .pre .1 .1) (cc) (c .before .word .ensures) (c .word2 .ensures)))
+    (λ c. let s = c .before .before .before .before .before in identity-place _ _ _ _ _ _ _ (s .pre .0) (s .pre .1 .1) (rw (c .before .before .before .byte .ensures) at (c .before .before .bit-at .ensures)) (c .before .word .ensures) (c .word2 .ensures)))

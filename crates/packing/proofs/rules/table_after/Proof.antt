@@ -10,5 +10,5 @@ table-after-spec =
     (λ c κs. search needs)
     (λ c. search needs)
     (λ c. search needs)
-    (λ c. rw (c .enum-told .given .1) (cc))
-    (λ c. rw (c .enum-told2 .given .1) (cc)))
+    (λ c. rw (c .enum-told .given .1, c .before .before .row-after .ensures))
+    (λ c. rw (c .enum-told2 .given .1, c .before .before .row-after .ensures)))

@@ -1,4 +1,5 @@
 -- `packing::shape::shape_of` meets its contract. Assumes nothing.
+use mathlib.Core.Path.{_∙_}
 use borrow.Author.Needs.{needs}
 use Rattle.packing.proofs.shape.shape_of.Statement.{statement}
 use Rattle.packing.proofs.shape.shape_of.Tie as tie
@@ -9,4 +10,4 @@ shape-of-spec =
     (tie.spec
     (λ c κs. search needs)
     (λ c κs. search needs)
-    (λ c. cc))
+    (λ c. c .unpack .ensures ∙ c .before .shape-number .ensures))

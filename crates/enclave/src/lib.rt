@@ -1,0 +1,10 @@
+// The enclave check: the passes in order, each over its items in order; the first check that fails decides.
+
+pub mod passes;
+use answers::Refusal;
+
+// What the check of an enclave answers.
+pub enum EnclaveAnswer {
+    Accepted { links: u64 },
+    Refused(Refusal),
+}

@@ -1,0 +1,37 @@
+-- `list_checks::list_tables::check_scope_lists` meets its contract. Assumes nothing.
+use Rattle.list_checks.specs.ListTables.{scopeListChecks}
+use Rattle.answers.proofs.Laws.{skip, stop}
+use borrow.Author.Needs.{needs}
+use Rattle.list_checks.proofs.list_tables.check_scope_lists.Statement.{statement}
+use Rattle.list_checks.proofs.list_tables.check_scope_lists.Tie as tie
+
+returns : tie.Need-returns
+unfolding scopeListChecks
+returns c = rw (← c .before .before .before .before .row-number .ensures, ← c .before .before .before .scope-reset-reactions-at .ensures) (stop _ (c .before .before .validate-levels .ensures) (c .enum-told2 .given .1))
+
+returns-2 : tie.Need-returns-2
+unfolding scopeListChecks
+returns-2 c = rw (← c .before .before .before .before .before .before .before .before .row-number .ensures, ← c .before .before .before .before .before .before .before .scope-reset-reactions-at .ensures, ← c .before .before .before .scope-startup-reactions-at .ensures) (skip (c .before .before .before .before .before .before .validate-levels .ensures) (c .before .before .before .before .enum-told .given .1) (stop _ (c .before .before .validate-lifecycle .ensures) (c .enum-told4 .given .1)))
+
+returns-3 : tie.Need-returns-3
+unfolding scopeListChecks
+returns-3 c = rw (← c .before .before .before .before .before .before .before .before .before .before .row-number .ensures, ← c .before .before .before .before .before .before .before .before .before .scope-reset-reactions-at .ensures, ← c .before .before .before .before .before .scope-startup-reactions-at .ensures, ← c .before .scope-shutdown-reactions-at .ensures) (skip (c .before .before .before .before .before .before .before .before .validate-levels .ensures) (c .before .before .before .before .before .before .enum-told .given .1) (skip (c .before .before .before .before .validate-lifecycle .ensures) (c .before .before .enum-told3 .given .1) (c .validate-lifecycle2 .ensures)))
+
+pub check-scope-lists-spec : {M : Type 1} → statement M
+check-scope-lists-spec =
+    tie.close
+    (tie.spec
+    (λ c κs. search needs)
+    (λ c κs. search needs)
+    (λ c κs. search needs)
+    (λ c. search needs)
+    (λ c. search needs)
+    returns
+    (λ c κs. search needs)
+    (λ c κs. search needs)
+    (λ c. search needs)
+    (λ c. search needs)
+    returns-2
+    (λ c κs. search needs)
+    (λ c κs. search needs)
+    returns-3)

@@ -1,0 +1,2 @@
+pub mod ListTables
+pub mod Routes

@@ -1,0 +1,147 @@
+// The checks of routes and of required bindings.
+ghost use mathlib.Core.Path.{_≡_};
+ghost use Rattle.identity.specs.Text.{identityText};
+ghost use Rattle.answers.specs.Checks.{Decides};
+ghost use Rattle.checks.specs.Image.{image};
+ghost use Prim.Native.Nat.{_-_};
+ghost use Rattle.checks.specs.Lists.{afterFirst};
+ghost use Rattle.list_checks.specs.Routes.{directionNumber, sameBoundaryChecks, routeOrderChecks, routesAt, routeChecks, bindingIdChecks};
+use answers::Outcome;
+use answers::Refusal;
+use answers::field;
+use answers::kind;
+use checks::identities;
+use checks::refs;
+use identity::ByteOrder;
+use identity::IdentityPlace;
+use schema::TableStarts;
+use schema::index::RouteDirection;
+use schema::read;
+use schema::rows::RequiredBindingImage;
+use schema::rows::RouteImage;
+
+// 0 inbound, 1 outbound.
+pub fn direction_number(direction: RouteDirection) -> u8
+    ensures { λ r. ⌜ r ≡ directionNumber direction ⌝ }
+{
+    match direction {
+        RouteDirection::Inbound => 0,
+        RouteDirection::Outbound => 1,
+    }
+}
+
+// Of one boundary: the two halves differ, and the one before is not the outbound one.
+fn check_same_boundary(i: u32, id: IdentityPlace, direction: u8, before: u8) -> Outcome
+    ensures { λ r. ⌜ Decides (sameBoundaryChecks i id direction before) r ⌝ }
+{
+    if direction == before {
+        return Outcome::Refused(Refusal::DuplicateRouteHalf {
+            boundary: id,
+            direction,
+        });
+    }
+    if before == 1 {
+        return Outcome::Refused(Refusal::EntriesNotSorted {
+            table: RouteImage::TABLE,
+            index: i,
+        });
+    }
+    Outcome::Passed
+}
+
+// A route against the one before it.
+fn check_route_order<'a>(
+    batch: &'a [u8],
+    house: &'a [u8],
+    i: u32,
+    route: RouteImage,
+    before: RouteImage,
+) -> Outcome
+    ensures { λ r. ⌜ Decides (routeOrderChecks (identityText (now (batch .entry)) (now (house .entry))) i (route .boundary) (route .direction) (before .boundary) (before .direction)) r ⌝ }
+{
+    let id = route.boundary;
+    let order = identity::compare_places(batch, house, id, before.boundary);
+    match order {
+        ByteOrder::Less => Outcome::Refused(Refusal::StableIdsNotSorted {
+            kind: kind::BOUNDARY,
+            index: i,
+            id,
+        }),
+        ByteOrder::Equal => {
+            let d = route.direction;
+            let e = before.direction;
+            check_same_boundary(i, id, direction_number(d), direction_number(e))
+        }
+        ByteOrder::Greater => Outcome::Passed,
+    }
+}
+
+// Row i of the routes against the one before; nothing for the first.
+fn check_route_after<'a>(
+    p: &'a [u8],
+    batch: &'a [u8],
+    house: &'a [u8],
+    s: &'a TableStarts,
+    i: u32,
+    route: RouteImage,
+) -> Outcome
+    ensures { λ r. ⌜ Decides (afterFirst i (routeOrderChecks (identityText (now (batch .entry)) (now (house .entry))) i (route .boundary) (route .direction) (routesAt (now (p .entry)) (now (s .entry)) (i - 1) .boundary) (routesAt (now (p .entry)) (now (s .entry)) (i - 1) .direction))) r ⌝ }
+{
+    if i == 0 {
+        return Outcome::Passed;
+    }
+    let before = read::route_at(p, refs::row_number(s, RouteImage::TABLE, i - 1));
+    check_route_order(batch, house, i, route, before)
+}
+
+// Row i of the routes.
+pub fn check_route<'a>(
+    p: &'a [u8],
+    batch: &'a [u8],
+    house: &'a [u8],
+    s: &'a TableStarts,
+    i: u32,
+) -> Outcome
+    ensures { λ r. ⌜ Decides (routeChecks (image (now (p .entry)) (now (batch .entry)) (now (house .entry)) (now (s .entry)) 0) i) r ⌝ }
+{
+    let route = read::route_at(p, refs::row_number(s, RouteImage::TABLE, i));
+    let a = identities::validate_id(batch, house, kind::BOUNDARY, i, route.boundary);
+    let Outcome::Passed = a else {
+        return a;
+    };
+    let b = check_route_after(p, batch, house, s, i, route);
+    let Outcome::Passed = b else {
+        return b;
+    };
+    crate::list_tables::check_port(
+        s,
+        RouteImage::TABLE,
+        i,
+        field::LOCAL_PORT,
+        route.local_port,
+    )
+}
+
+// Row i of the required bindings.
+pub fn check_binding_id<'a>(
+    p: &'a [u8],
+    batch: &'a [u8],
+    house: &'a [u8],
+    s: &'a TableStarts,
+    i: u32,
+) -> Outcome
+    ensures { λ r. ⌜ Decides (bindingIdChecks (image (now (p .entry)) (now (batch .entry)) (now (house .entry)) (now (s .entry)) 0) i) r ⌝ }
+{
+    let table = RequiredBindingImage::TABLE;
+    let binding = read::binding_at(p, refs::row_number(s, table, i));
+    let id = binding.id;
+    let a = identities::validate_id(batch, house, kind::BINDING, i, id);
+    let Outcome::Passed = a else {
+        return a;
+    };
+    if i == 0 {
+        return Outcome::Passed;
+    }
+    let before = read::binding_at(p, refs::row_number(s, table, i - 1));
+    identities::validate_id_order(batch, house, kind::BINDING, i, id, before.id)
+}
