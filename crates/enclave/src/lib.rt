@@ -1,4 +1,5 @@
 // The enclave check: the passes in order, each over its items in order; the first check that fails decides.
+pub mod check;
 
 pub mod passes;
 use answers::Refusal;

@@ -58,9 +58,11 @@ use Rattle.scope_checks.proofs.ends.ScopeEnds.Laws as E′
 use Rattle.scope_checks.proofs.ends.EndsAnswer as N
 use Rattle.scope_checks.proofs.ends.EndsAnswer.Laws as N′
 use Rattle.scope_checks.proofs.ends.moved_row as core
+use Rattle.scope_checks.proofs.ends.moved_row.Symbol.{name as #moved-row}
 use Rattle.scope_checks.proofs.ends.moved_row.Symbol as core-def
 use Rattle.scope_checks.proofs.ends.moved_row.Met as core-thm
 use Rattle.scope_checks.proofs.ends.check_scope_row as thin
+use Rattle.scope_checks.proofs.ends.check_scope_row.Key.{name as #check-scope-row}
 use Rattle.scope_checks.proofs.ends.check_scope_row.Statement as stated
 use Rattle.scope_checks.proofs.ends.check_scope_row.Code as code
 

@@ -60,9 +60,11 @@ use Rattle.scope_checks.proofs.ends.ScopeEnds.Laws as E′
 use Rattle.scope_checks.proofs.ends.EndsAnswer as N
 use Rattle.scope_checks.proofs.ends.EndsAnswer.Laws as N′
 use Rattle.scope_checks.proofs.ends.check_scope_row as thin
+use Rattle.scope_checks.proofs.ends.check_scope_row.Symbol.{name as #check-scope-row}
 use Rattle.scope_checks.proofs.ends.check_scope_row.Symbol as thin-def
 use Rattle.scope_checks.proofs.ends.check_scope_row.Met as thin-thm
 use Rattle.scope_checks.proofs.ends.row_by as outer
+use Rattle.scope_checks.proofs.ends.row_by.Key.{name as #row-by}
 use Rattle.scope_checks.proofs.ends.row_by.Statement as stated
 use Rattle.scope_checks.proofs.ends.row_by.Code as code
 

@@ -1,0 +1,70 @@
+// The check of an enclave: packing, then the passes, with the links of its scopes.
+ghost use mathlib.Core.Path.{_≡_};
+ghost use Rattle.checks.specs.Image.{image};
+ghost use Rattle.enclave.specs.Answer.{outcomeAnswer, parentsOutcome, answerNumbers, imageAnswer, enclaveAnswer};
+use crate::EnclaveAnswer;
+use answers::Outcome;
+use packing::PackKind;
+use schema::TableStarts;
+use scope_checks::links::Parents;
+
+// A refusal, passed up.
+fn refused(outcome: Outcome) -> EnclaveAnswer
+    ensures { λ r. ⌜ r ≡ outcomeAnswer outcome ⌝ }
+{
+    match outcome {
+        Outcome::Passed => EnclaveAnswer::Accepted { links: 0 },
+        Outcome::Refused(r) => EnclaveAnswer::Refused(r),
+    }
+}
+
+// A cycle of parents, passed up.
+fn cycle(parents: Parents) -> EnclaveAnswer
+    ensures { λ r. ⌜ r ≡ parentsOutcome parents ⌝ }
+{
+    match parents {
+        Parents::Links(links) => EnclaveAnswer::Accepted { links },
+        Parents::Refused(r) => EnclaveAnswer::Refused(r),
+    }
+}
+
+// The row passes, the scopes, and the parents with the links followed; then the list passes.
+pub fn check_image<'a>(
+    p: &'a [u8],
+    batch: &'a [u8],
+    house: &'a [u8],
+    s: &'a TableStarts,
+    n: usize,
+) -> EnclaveAnswer
+    ensures { λ r. ⌜ answerNumbers r ≡ imageAnswer (image (now (p .entry)) (now (batch .entry)) (now (house .entry)) (now (s .entry)) n) ⌝ }
+{
+    let rows = crate::passes::check_passes(p, batch, house, s, n, 0, 8);
+    let Outcome::Passed = rows else {
+        return refused(rows);
+    };
+    let scopes = scope_checks::scopes::check_scopes(p, s);
+    let Outcome::Passed = scopes else {
+        return refused(scopes);
+    };
+    let parents = scope_checks::links::check_parents(p, s);
+    let Parents::Links(links) = parents else {
+        return cycle(parents);
+    };
+    let lists = crate::passes::check_passes(p, batch, house, s, n, 8, 21);
+    let Outcome::Passed = lists else {
+        return refused(lists);
+    };
+    EnclaveAnswer::Accepted { links }
+}
+
+// The answer of `EnclaveImageView::new` for an enclave pack and its two texts.
+pub fn check_enclave<'a>(pack: &'a [u8], batch: &'a [u8], house: &'a [u8]) -> EnclaveAnswer
+    ensures { λ r. ⌜ answerNumbers r ≡ enclaveAnswer (now (pack .entry)) (now (batch .entry)) (now (house .entry)) ⌝ }
+{
+    let packed = packing::rules::check_packing(PackKind::Enclave, pack, batch, house);
+    let Outcome::Passed = packed else {
+        return refused(packed);
+    };
+    let s = packing::starts::table_starts(pack, 1);
+    check_image(pack, batch, house, &s, 0)
+}

@@ -1,0 +1,3 @@
+pub mod Larger
+pub mod SlotTests
+pub mod Exactly
