@@ -1,6 +1,6 @@
 -- Acceptance is passing without the slot checks, with every slot below its bound. Assumes nothing.
 use Prim.Native.Nat.{ℕ, zero, suc, _+_, _<_, _≤_}
-use mathlib.Core.Bool.{Bool, true, false, _&&_, true≢false}
+use mathlib.Core.Bool.{true}
 use mathlib.Core.Path.{_≡_, refl, _∙_, sym}
 use mathlib.Core.List.{List}
 use native.Mathlib.Decide.{decLe}
@@ -15,12 +15,8 @@ use Rattle.row_checks.specs.Reactors.{reactorChecks}
 use Rattle.row_checks.specs.Actions.{actionChecks}
 use Rattle.enclave.specs.Passes.{enclaveChecks}
 use Rattle.larger_bounds.specs.Images.{SlotsBelow, AcceptedExactly}
+use Rattle.larger_bounds.proofs.Tests.{both}
 use Rattle.larger_bounds.proofs.SlotTests.{reactor-slots, action-slots, enclave-slots}
-
-both : (a b : Bool) → (a && b) ≡ true → (a ≡ true) × (b ≡ true)
-both true true e = (refl, refl)
-both true false e = absurd (true≢false (sym e))
-both false b e = absurd (true≢false (sym e))
 
 -- the slot checks of a run hold exactly where those of each of its lists do
 run-each : (f : ℕ → List Check) (i n : ℕ) → slotsHold (run f i n) ≡ true → (k : ℕ) → i ≤ k → k < i + n → slotsHold (f k) ≡ true
@@ -45,25 +41,23 @@ below-rows : (f : ℕ → List Check) (slot : ℕ → ℕ) (bound n : ℕ) → (
 below-rows f slot bound n e h = each-run f 0 n (λ i l u. e i ∙ lt-ltb (slot i) bound (h i (omega arith)))
 
 module _ (m : Image) where
-  slots-below : slotsHold (enclaveChecks m) ≡ true → SlotsBelow m
-  slots-below h =
-      let e = both _ _ (sym (enclave-slots m) ∙ h) in
-      (
-        rows-below (reactorChecks m) (λ i. m .reactors i .«state_slot») (m .stateSlots) (m .rows 2) (reactor-slots m) (e .0),
-        rows-below (actionChecks m) (λ i. m .actions i .slot) (m .actionSlots) (m .rows 3) (action-slots m) (e .1)
-      )
-
   below-slots : SlotsBelow m → slotsHold (enclaveChecks m) ≡ true
   below-slots b =
       enclave-slots m
       ∙ rw (
-          below-rows (reactorChecks m) (λ i. m .reactors i .«state_slot») (m .stateSlots) (m .rows 2) (reactor-slots m) (b .0),
-          below-rows (actionChecks m) (λ i. m .actions i .slot) (m .actionSlots) (m .rows 3) (action-slots m) (b .1)
-        )
+        below-rows (reactorChecks m) (λ i. m .reactors i .«state_slot») (m .stateSlots) (m .rows 2) (reactor-slots m) (b .0),
+        below-rows (actionChecks m) (λ i. m .actions i .slot) (m .actionSlots) (m .rows 3) (action-slots m) (b .1),
+      )
+
+  slots-below : slotsHold (enclaveChecks m) ≡ true → SlotsBelow m
+  slots-below h =
+      let e = both _ _ (sym (enclave-slots m) ∙ h) in (
+        rows-below (reactorChecks m) (λ i. m .reactors i .«state_slot») (m .stateSlots) (m .rows 2) (reactor-slots m) (e .0),
+        rows-below (actionChecks m) (λ i. m .actions i .slot) (m .actionSlots) (m .rows 3) (action-slots m) (e .1),
+      )
 
 pub accepted-exactly : AcceptedExactly
-accepted-exactly m =
-    (
-      (λ e. let h = passes-without (enclaveChecks m) e in (h .0, slots-below m (h .1))),
-      (λ h. passes-with (enclaveChecks m) (h .0) (below-slots m (h .1)))
-    )
+accepted-exactly m = (
+  (λ e. let h = passes-without (enclaveChecks m) e in (h .0, slots-below m (h .1))),
+  (λ h. passes-with (enclaveChecks m) (h .0) (below-slots m (h .1))),
+)

@@ -2,12 +2,11 @@
 use Prim.Native.Nat.{ℕ, _≤_}
 use mathlib.Core.Bool.{true}
 use mathlib.Core.Path.{_≡_, refl}
-use mathlib.Core.List.{List, [], _∷_, _++_}
+use mathlib.Core.List.{List, _∷_}
 use native.Mathlib.Omega.{arith}
 use lib.Dec.{ltb}
 use lib.ListN.{drop}
 use borrow.Author.Tests.{ltb-true, lt-ltb}
-use Rattle.answers.specs.Checks.{Check, run}
 use Rattle.answers.proofs.Looser.{Looser, same, slot, looser-same, looser-append, looser-run, looser-stays}
 use Rattle.checks.specs.Image.{Image}
 use Rattle.row_checks.specs.Reactors.{reactorChecks}

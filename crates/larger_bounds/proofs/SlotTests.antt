@@ -1,11 +1,9 @@
 -- The slot checks of each pass: a reactor's, an action's, and in the other passes none. Assumes nothing.
-use Prim.Native.Nat.{ℕ, zero, suc, _+_, _-_, _<_, _≤_}
-use mathlib.Core.Bool.{Bool, true, false, _&&_, cond, and-true, true≢false}
-use mathlib.Core.Path.{_≡_, refl, _∙_, ap, sym}
+use Prim.Native.Nat.{ℕ, zero, suc}
+use mathlib.Core.Bool.{Bool, true, false, _&&_, cond, and-true}
+use mathlib.Core.Path.{_≡_, refl, _∙_, ap}
 use mathlib.Core.List.{List, [], _∷_, _++_}
-use native.Mathlib.Decide.{decLe}
-use native.Mathlib.Omega.{arith}
-use lib.Dec.{ltb, eqb}
+use lib.Dec.{ltb}
 use lib.ListN.{drop}
 use Rattle.answers.specs.Numbers.{numbers}
 use Rattle.answers.specs.declared.Refusal.{Refusal}
@@ -21,22 +19,20 @@ use Rattle.schema.specs.declared.index.MaybeBank.the-variants.{NoBank, Bank}
 use Rattle.schema.specs.declared.index.MaybeBinding.{MaybeBinding}
 use Rattle.schema.specs.declared.index.MaybeBinding.the-variants.{NoBinding, Binding}
 use Rattle.schema.specs.declared.rows.ModeImage.{ModeImage}
-use Rattle.schema.specs.declared.rows.ScopeImage.{ScopeImage}
 use Rattle.schema.specs.declared.rows.RequiredBindingImage.{RequiredBindingImage}
 use Rattle.schema.specs.declared.lists.LevelReactionImage.{LevelReactionImage}
 use Rattle.schema.specs.declared.lists.LifecycleReactionImage.{LifecycleReactionImage}
 use Rattle.range.specs.declared.IndexSpan.{IndexSpan}
 use Rattle.checks.specs.Image.{Image, ReactionPart}
-use Rattle.checks.specs.Lists.{afterFirst, levelOrderChecks, levelChecks, lifecycleChecks, levelsChecks, lifecyclesChecks}
+use Rattle.checks.specs.Lists.{levelChecks, lifecycleChecks, levelsChecks, lifecyclesChecks}
 use Rattle.row_checks.specs.Reactors.{initialModeChecks, bankChecks, reactorChecks}
 use Rattle.row_checks.specs.Actions.{actionBindingChecks, actionChecks}
 use Rattle.row_checks.specs.Ports.{portChecks}
 use Rattle.row_checks.specs.Reactions.{effectChecks, reactionChecks}
 use Rattle.row_checks.specs.Modes.{modeChecks}
-use Rattle.scope_checks.specs.declared.ends.ScopeEnds.{ScopeEnds}
-use Rattle.scope_checks.specs.Ends.{memberRangeChecks, reactionRangeChecks, scopeRangeChecks}
+use Rattle.scope_checks.specs.Ends.{memberRangeChecks, reactionRangeChecks}
 use Rattle.scope_checks.specs.Scopes.{parentChecks, scopeModeChecks, scopeRowChecks, scopeChecks}
-use Rattle.list_checks.specs.ListTables.{actionTriggerChecks, portTriggerChecks, enabledModesChecks, scopeListChecks, shutdownReactionChecks, shutdownActionChecks}
+use Rattle.list_checks.specs.ListTables.{actionTriggerChecks, portTriggerChecks, enabledModesChecks, scopeListChecks, shutdownActionChecks}
 use Rattle.list_checks.specs.Routes.{routeChecks, bindingIdChecks}
 use Rattle.enclave.specs.Passes.{Pass, rowPasses, listPasses, passes, over, times, lengthChecks, rootChecks, enclaveIdChecks, passChecks, checksOf, enclaveChecks}
 

@@ -1,17 +1,14 @@
 // The answer of a case.
 use answers::Outcome;
 use answers::Refusal;
+use enclave::EnclaveAnswer;
+use enclave::check::check_enclave;
 use packing::PackKind;
 use packing::rules::check_packing;
 
 pub enum Answer {
-    Enclave {
-        links: u64,
-    },
-    Federate {
-        stations: u64,
-        links: u64,
-    },
+    Enclave { links: u64 },
+    Federate { stations: u64, links: u64 },
     Refused(Refusal),
     // The packing rules pass, and no check after them is at hand.
     Packed,
@@ -26,7 +23,10 @@ fn packing_answer(outcome: Outcome) -> Answer {
 }
 
 fn enclave_answer<'a>(pack: &'a [u8], batch: &'a [u8], house: &'a [u8]) -> Answer {
-    packing_answer(check_packing(PackKind::Enclave, pack, batch, house))
+    match check_enclave(pack, batch, house) {
+        EnclaveAnswer::Accepted { links } => Answer::Enclave { links },
+        EnclaveAnswer::Refused(refusal) => Answer::Refused(refusal),
+    }
 }
 
 fn federate_answer<'a>(pack: &'a [u8], batch: &'a [u8], house: &'a [u8]) -> Answer {

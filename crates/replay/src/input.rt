@@ -68,7 +68,12 @@ fn take(block: &mut [u8], at: usize, end: usize, part: &mut [u8], len: u32) -> T
         end = left.end;
         let n = least(end - at, missing);
         if n == 0 {
-            return Taken { at, end, kept, whole: false };
+            return Taken {
+                at,
+                end,
+                kept,
+                whole: false,
+            };
         }
         let m = least(n, part.len() - kept);
         let stop = at + m;
@@ -77,7 +82,12 @@ fn take(block: &mut [u8], at: usize, end: usize, part: &mut [u8], len: u32) -> T
         at += n;
         missing -= n;
     }
-    Taken { at, end, kept, whole: true }
+    Taken {
+        at,
+        end,
+        kept,
+        whole: true,
+    }
 }
 
 fn next_if(whole: bool) -> Next {
@@ -117,7 +127,15 @@ fn read_parts(
 fn no_case(at: usize, end: usize, next: Next) -> Read
     ensures { λ r. ⌜ (r .at ≡ at) × ((r .end ≡ end) × ((r .pack ≡ 0) × ((r .batch ≡ 0) × (r .house ≡ 0)))) ⌝ }
 {
-    Read { at, end, next, kind: 0, pack: 0, batch: 0, house: 0 }
+    Read {
+        at,
+        end,
+        next,
+        kind: 0,
+        pack: 0,
+        batch: 0,
+        house: 0,
+    }
 }
 
 // Takes the next case.

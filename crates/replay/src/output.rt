@@ -3,6 +3,7 @@ ghost use Prim.Native.Nat.{_+_, _≤_};
 ghost use lib.ListN.{length};
 use crate::answer::Answer;
 use crate::copy::copy_in;
+use crate::copy::least;
 use answers::Refusal;
 use libc::STDOUT_FILENO;
 
@@ -48,14 +49,12 @@ fn put_refusal(out: &mut [u8], used: usize, refusal: Refusal) -> usize
     ensures { λ r. ⌜ r ≤ length (now (out .exit)) ⌝ }
 {
     let list = answers::numbers(refusal);
-    let len = list.len;
+    let len = least(list.len, 8);
     let values = list.values;
     let mut used = put(out, used, b"refused");
     let mut i = 0;
-    while i < 8 {
-        if i < len {
-            used = put_number(out, used, values[i]);
-        }
+    while i < len {
+        used = put_number(out, used, values[i]);
         i += 1;
     }
     used

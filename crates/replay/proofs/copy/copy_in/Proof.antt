@@ -10,8 +10,6 @@ use lib.Seq.{paste, paste-zero, paste-suc}
 use borrow.Author.Needs.{needs}
 use Rattle.replay.proofs.copy.copy_in.Statement.{statement}
 use Rattle.replay.proofs.copy.copy_in.Tie as tie
-use Rattle.replay.proofs.copy.copy_in.Reads as reads
-use Rattle.replay.proofs.copy.copy_in.Lts as lts
 
 abbrev Inv-loop : tie.InvT-loop
 Inv-loop src dst₀ at j₀ dst j = (dst ≡ paste dst₀ at src j) × ((j ≤ length src) × (length dst ≡ length dst₀))
@@ -19,31 +17,24 @@ Inv-loop src dst₀ at j₀ dst j = (dst ≡ paste dst₀ at src j) × ((j ≤ l
 abbrev μ-loop : tie.MeasureT-loop
 μ-loop src dst₀ at j₀ dst j = length src - j
 
--- src/copy.rt:19:5
 loop-holds : tie.Need-loop-holds Inv-loop μ-loop
 loop-holds c = (paste-zero (c .args .dst .now) (c .args .at) (c .args .src .now), (omega arith, refl))
 
--- src/copy.rt:20:23
 shared-slice-read-dst : tie.Need-shared-slice-read-dst Inv-loop μ-loop
 shared-slice-read-dst c = search needs
 
--- src/copy.rt:20:13
 add-dst : tie.Need-add-dst Inv-loop μ-loop
 add-dst c = search needs
 
--- src/copy.rt:20:9
 slice-write-dst : tie.Need-slice-write-dst Inv-loop μ-loop
 slice-write-dst c = search needs
 
--- src/copy.rt:21:9
 add-j : tie.Need-add-j Inv-loop μ-loop
 add-j c = search needs
 
--- src/copy.rt:19:5
 loop-less : tie.Need-loop-less Inv-loop μ-loop
 loop-less c = search needs
 
--- src/copy.rt:19:5
 loop-again : tie.Need-loop-again Inv-loop μ-loop
 loop-again c =
     let inside = c .before in
@@ -55,11 +46,9 @@ loop-again c =
       (omega arith, length-set (l .dst) (a .at + l .j) (getD (a .src .now) (l .j) 0) ∙ l .inv .1 .1),
     )
 
--- src/copy.rt:14:1
 same-length : tie.Need-same-length Inv-loop μ-loop
 same-length c = search needs
 
--- src/copy.rt:14:1
 returns : tie.Need-returns Inv-loop μ-loop
 returns c =
     let l = c .before .loop in

@@ -1,0 +1,4 @@
+pub mod Packs
+pub mod Fields
+pub mod Records
+pub mod Cases

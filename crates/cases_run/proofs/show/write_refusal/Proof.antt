@@ -1,0 +1,29 @@
+-- `cases_run::show::write_refusal` is safe and ends.
+use borrow.Author.Needs.{needs}
+use Prim.Native.Nat.{_≤_, _-_}
+use Rattle.cases_run.proofs.show.write_refusal.Statement.{statement}
+use Rattle.cases_run.proofs.show.write_refusal.Tie as tie
+
+abbrev Inv-loop : tie.InvT-loop
+Inv-loop len values i₀ t7 i = i ≤ 8
+
+abbrev μ-loop : tie.MeasureT-loop
+μ-loop len values i₀ t7 i = 8 - i
+
+pub write-refusal-spec : {M : Type 1} → statement M
+write-refusal-spec =
+    tie.close
+    (tie.spec
+    Inv-loop
+    μ-loop
+    (λ c κs. search needs)
+    (λ c. search needs)
+    (λ c κs. search needs)
+    (λ c. search needs)
+    (λ c. search needs)
+    (λ c. search needs)
+    (λ c κs. search needs)
+    (λ c. search needs)
+    (λ c. search needs)
+    (λ c. search needs)
+    (λ c. search needs))

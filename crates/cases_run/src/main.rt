@@ -1,0 +1,216 @@
+// Document 01's lines that speak of a station, and its misreadings: packs from rows, a line for each with the check's answer.
+mod rows;
+mod show;
+
+use cases::records;
+use schema::index::BindingKind;
+use schema::index::RouteDirection;
+use schema::lists::ReactionTrigger;
+use schema::rows::ActionImage;
+use schema::rows::EnclaveImage;
+use schema::rows::ReactorImage;
+use schema::rows::ScopeImage;
+use show::put;
+use show::show;
+
+// S with another enclave, reactor or scope, of which the first `len` bytes are lent.
+fn station<'a>(
+    name: &[u8],
+    enclave: EnclaveImage,
+    reactor: ReactorImage,
+    scope: ScopeImage,
+    len: usize,
+    batch: &'a [u8],
+) {
+    let mut pack = [0u8; 1024];
+    put(&mut pack, 0, records::enclave(enclave));
+    put(&mut pack, 1, records::reactor(reactor));
+    put(&mut pack, 2, records::scope(scope));
+    put(&mut pack, 3, records::binding(rows::binding(1, BindingKind::StateInitializer)));
+    show(name, &pack, len, batch);
+}
+
+fn with_enclave<'a>(name: &[u8], enclave: EnclaveImage, batch: &'a [u8]) {
+    station(name, enclave, ReactorImage::empty(), ScopeImage::empty(), 256, batch);
+}
+
+fn with_reactor(name: &[u8], reactor: ReactorImage) {
+    station(name, rows::enclave_s(), reactor, ScopeImage::empty(), 256, b"ab");
+}
+
+fn without_reactor() {
+    let mut pack = [0u8; 1024];
+    put(&mut pack, 0, records::enclave(rows::enclave(0, 0, 1, 0)));
+    put(&mut pack, 1, records::scope(ScopeImage::empty()));
+    put(&mut pack, 2, records::binding(rows::binding(1, BindingKind::StateInitializer)));
+    show(b"S without its reactor, identity empty", &pack, 192, b"ab");
+}
+
+fn two_scopes(name: &[u8], first: ScopeImage, second: ScopeImage) {
+    let mut pack = [0u8; 1024];
+    put(&mut pack, 0, records::enclave(rows::enclave_s()));
+    put(&mut pack, 1, records::reactor(ReactorImage::empty()));
+    put(&mut pack, 2, records::scope(first));
+    put(&mut pack, 3, records::scope(second));
+    put(&mut pack, 4, records::binding(rows::binding(1, BindingKind::StateInitializer)));
+    show(name, &pack, 320, b"ab");
+}
+
+// Reactor 0 has the modes 0+1, and reactor 1 an empty span.
+fn two_spans(name: &[u8], start: u64) {
+    let mut pack = [0u8; 1024];
+    put(&mut pack, 0, records::enclave(rows::enclave_s()));
+    put(&mut pack, 1, records::reactor(rows::reactor(0, 0, 1)));
+    put(&mut pack, 2, records::reactor(rows::reactor(1, start, 0)));
+    put(&mut pack, 3, records::mode(rows::mode(0, 2)));
+    put(&mut pack, 4, records::scope(rows::scope(0)));
+    put(&mut pack, 5, records::scope(rows::scope(1)));
+    put(&mut pack, 6, records::scope(rows::mode_scope(0)));
+    put(&mut pack, 7, records::binding(rows::binding(1, BindingKind::StateInitializer)));
+    show(name, &pack, 512, b"ab");
+}
+
+fn with_action(name: &[u8], enclave: EnclaveImage, action: ActionImage) {
+    let mut pack = [0u8; 1024];
+    put(&mut pack, 0, records::enclave(enclave));
+    put(&mut pack, 1, records::reactor(ReactorImage::empty()));
+    put(&mut pack, 2, records::action(action));
+    put(&mut pack, 3, records::scope(ScopeImage::empty()));
+    put(&mut pack, 4, records::binding(rows::binding(1, BindingKind::StateInitializer)));
+    show(name, &pack, 320, b"ab");
+}
+
+// An action and a port with the same trigger.
+fn shared_trigger() {
+    let mut pack = [0u8; 1024];
+    put(&mut pack, 0, records::enclave(rows::enclave_one_action()));
+    put(&mut pack, 1, records::reactor(ReactorImage::empty()));
+    put(&mut pack, 2, records::action(rows::triggering_action(1)));
+    put(&mut pack, 3, records::port(rows::port(2, 1)));
+    put(&mut pack, 4, records::reaction(rows::reaction(3)));
+    put(&mut pack, 5, records::scope(ScopeImage::empty()));
+    put(&mut pack, 6, records::trigger(ReactionTrigger::empty()));
+    put(&mut pack, 7, records::binding(rows::binding(1, BindingKind::StateInitializer)));
+    put(&mut pack, 8, records::binding(rows::binding(2, BindingKind::Action)));
+    put(&mut pack, 9, records::binding(rows::binding(3, BindingKind::Port)));
+    put(&mut pack, 10, records::binding(rows::binding(4, BindingKind::Reaction)));
+    show(b"an action and a port with triggers 0+1", &pack, 704, b"abcde");
+}
+
+// A trigger that no range covers, and no reaction.
+fn uncovered_trigger() {
+    let mut pack = [0u8; 1024];
+    put(&mut pack, 0, records::enclave(rows::enclave_s()));
+    put(&mut pack, 1, records::reactor(ReactorImage::empty()));
+    put(&mut pack, 2, records::scope(ScopeImage::empty()));
+    put(&mut pack, 3, records::trigger(ReactionTrigger::empty()));
+    put(&mut pack, 4, records::binding(rows::binding(1, BindingKind::StateInitializer)));
+    show(b"an entry that no range covers", &pack, 320, b"ab");
+}
+
+// S with a port `c` and one half of the boundary `d`.
+fn one_half(name: &[u8], direction: RouteDirection) {
+    let mut pack = [0u8; 1024];
+    put(&mut pack, 0, records::enclave(rows::enclave_s()));
+    put(&mut pack, 1, records::reactor(ReactorImage::empty()));
+    put(&mut pack, 2, records::port(rows::port(1, 0)));
+    put(&mut pack, 3, records::scope(ScopeImage::empty()));
+    put(&mut pack, 4, records::route(rows::route(3, direction)));
+    put(&mut pack, 5, records::binding(rows::binding(1, BindingKind::StateInitializer)));
+    put(&mut pack, 6, records::binding(rows::binding(2, BindingKind::Port)));
+    show(name, &pack, 448, b"abcd");
+}
+
+// The same with two halves.
+fn two_halves(name: &[u8], first: RouteDirection, second: RouteDirection) {
+    let mut pack = [0u8; 1024];
+    put(&mut pack, 0, records::enclave(rows::enclave_s()));
+    put(&mut pack, 1, records::reactor(ReactorImage::empty()));
+    put(&mut pack, 2, records::port(rows::port(1, 0)));
+    put(&mut pack, 3, records::scope(ScopeImage::empty()));
+    put(&mut pack, 4, records::route(rows::route(3, first)));
+    put(&mut pack, 5, records::route(rows::route(3, second)));
+    put(&mut pack, 6, records::binding(rows::binding(1, BindingKind::StateInitializer)));
+    put(&mut pack, 7, records::binding(rows::binding(2, BindingKind::Port)));
+    show(name, &pack, 512, b"abcd");
+}
+
+fn slots_and_parents() {
+    with_enclave(b"S", rows::enclave_s(), b"ab");
+    with_enclave(b"S, state slots 0", rows::enclave(0, 1, 0, 0), b"ab");
+    without_reactor();
+    station(
+        b"S, scope 0 its own parent",
+        rows::enclave_s(),
+        ReactorImage::empty(),
+        rows::scope_under(0),
+        256,
+        b"ab",
+    );
+    two_scopes(b"S and scope 1 under scope 0", ScopeImage::empty(), rows::scope_under(0));
+    two_scopes(b"each the other's parent", rows::scope_under(1), rows::scope_under(0));
+}
+
+fn spans_and_banks() {
+    two_spans(b"modes 0+1, then 0+0", 0);
+    two_spans(b"modes 0+1, then 1+0", 1);
+    with_reactor(b"bank index 0 of 0", rows::bank_reactor(0, 0));
+    with_reactor(b"bank index 3 of 3", rows::bank_reactor(3, 3));
+    with_reactor(b"bank index 2 of 3", rows::bank_reactor(2, 3));
+}
+
+// The identity stands behind S's own text.
+fn identities() {
+    with_enclave(b"identity ` a`", rows::enclave(2, 2, 1, 0), b"ab a");
+    with_enclave(b"identity U+00A0", rows::enclave(2, 2, 1, 0), b"ab\xC2\xA0");
+    with_enclave(b"identity `a b`", rows::enclave(2, 3, 1, 0), b"aba b");
+    with_enclave(b"identity U+200B", rows::enclave(2, 3, 1, 0), b"ab\xE2\x80\x8B");
+}
+
+fn actions() {
+    let one = rows::enclave_one_action();
+    let none = rows::enclave_s();
+    with_action(b"a timer with a binding", one, rows::bound_timer());
+    with_action(b"a standard action without", one, ActionImage::empty());
+    with_action(b"a timer with a binding, action slots 0", none, rows::bound_timer());
+    with_action(b"a standard action without, action slots 0", none, ActionImage::empty());
+    shared_trigger();
+}
+
+fn lengths() {
+    let enclave = rows::enclave_s();
+    let reactor = ReactorImage::empty();
+    let scope = ScopeImage::empty();
+    station(b"63 bytes", enclave, reactor, scope, 63, b"ab");
+    station(b"65 bytes", enclave, reactor, scope, 65, b"ab");
+    with_enclave(
+        b"identity of length 0 at the text's end",
+        rows::enclave(2, 0, 1, 0),
+        b"ab",
+    );
+}
+
+fn misreadings() {
+    uncovered_trigger();
+    two_halves(
+        b"equal boundaries, inbound first",
+        RouteDirection::Inbound,
+        RouteDirection::Outbound,
+    );
+    two_halves(
+        b"equal boundaries, outbound first",
+        RouteDirection::Outbound,
+        RouteDirection::Inbound,
+    );
+}
+
+fn main() {
+    slots_and_parents();
+    spans_and_banks();
+    identities();
+    actions();
+    one_half(b"a lone route half, inbound", RouteDirection::Inbound);
+    one_half(b"a lone route half, outbound", RouteDirection::Outbound);
+    lengths();
+    misreadings();
+}
