@@ -55,8 +55,10 @@ pub fn enclave_one_action() -> EnclaveImage {
 
 pub fn reactor(root_scope: u32, start: u64, len: u64) -> ReactorImage {
     let mut row = ReactorImage::empty();
-    row.root_scope = ScopeIndex(root_scope);
-    row.modes = ModeSpan(IndexSpan { start, len });
+    let root_scope = ScopeIndex(root_scope);
+    row.root_scope = root_scope;
+    let modes = ModeSpan(IndexSpan { start, len });
+    row.modes = modes;
     row
 }
 
@@ -114,30 +116,36 @@ pub fn triggering_action(binding: u32) -> ActionImage {
 
 pub fn port(binding: u32, triggers: u32) -> PortImage {
     let mut row = PortImage::empty();
-    row.binding = BindingSlotIndex(binding);
-    row.triggers = SliceRange {
+    let binding = BindingSlotIndex(binding);
+    row.binding = binding;
+    let triggers = SliceRange {
         start: 0,
         len: triggers,
     };
+    row.triggers = triggers;
     row
 }
 
 pub fn reaction(binding: u32) -> ReactionImage {
     let mut row = ReactionImage::empty();
-    row.binding = BindingSlotIndex(binding);
+    let binding = BindingSlotIndex(binding);
+    row.binding = binding;
     row
 }
 
 pub fn mode(reactor: u32, scope: u32) -> ModeImage {
     let mut row = ModeImage::empty();
-    row.reactor = ReactorIndex(reactor);
-    row.scope = ScopeIndex(scope);
+    let reactor = ReactorIndex(reactor);
+    row.reactor = reactor;
+    let scope = ScopeIndex(scope);
+    row.scope = scope;
     row
 }
 
 pub fn scope(reactor: u32) -> ScopeImage {
     let mut row = ScopeImage::empty();
-    row.reactor = ReactorIndex(reactor);
+    let reactor = ReactorIndex(reactor);
+    row.reactor = reactor;
     row
 }
 

@@ -16,9 +16,8 @@ use Rattle.packing.specs.Starts.{recordsOf, firstReaching, startsBelow, tableSt
 use Rattle.packing.proofs.TableStarts.{starts-from}
 use Rattle.checks.specs.Image.{Image, image, actionPart, reactionPart, routePart, startOf, rowsOf}
 use Rattle.larger_bounds.specs.Images.{withBounds}
-use Rattle.larger_bounds.specs.Packs.{Packed, DifferInStorage, stateBound, actionBound}
+use Rattle.larger_bounds.specs.Packs.{DifferInStorage, stateBound, actionBound}
 use Rattle.larger_bounds.proofs.RowBytes.{number-same, row-same}
-use Rattle.larger_bounds.proofs.Packed.{one-enclave}
 
 -- a table of an image: past the last one, table 2 stands for it
 abbrev pub tableIn : ℕ → ℕ
@@ -88,11 +87,11 @@ module _ (p q : List ℕ) (d : DifferInStorage p q) where
         number-same p q n 4 8 (λ j l. head-same n j (omega arith)),
       )
 
-  module _ (batch house : List ℕ) (h : Packed p batch house) where
-    -- the rows
+  -- a pack whose only enclave is record 0's
+  module _ (batch house : List ℕ) (single : (n : ℕ) → byteOf p (suc n) 0 ≡ 1 → ⊥) where
     not-enclave : (n : ℕ) → 1 ≤ n → byteOf p n 0 ≡ 1 → ⊥
     not-enclave zero l e = absurd (omega arith)
-    not-enclave (suc n) l e = one-enclave p batch house h n e
+    not-enclave (suc n) l e = single n e
 
     rows-same : {A : Type 0} (of : (ℕ → ℕ) → ℕ → ℕ → A) (l : Layout) → used l ≤ 64 → (n : ℕ) → 1 ≤ n → row of l q n ≡ row of l p n
     rows-same of l u n g = row-same p q n of l u (record-same n (not-enclave n g))

@@ -37,11 +37,11 @@ use Rattle.list_checks.specs.Routes.{routeChecks, bindingIdChecks}
 use Rattle.enclave.specs.Passes.{Pass, rowPasses, listPasses, passes, over, times, lengthChecks, rootChecks, enclaveIdChecks, passChecks, checksOf, enclaveChecks}
 
 -- no check of the list is a slot check
-pub data Plain : List Check → Type 0 where
+data Plain : List Check → Type 0 where
   none : Plain []
   more : {b : Bool} {r : Refusal} {cs : List Check} → isSlot r ≡ false → Plain cs → Plain (need b r ∷ cs)
 
-pub plain-holds : {cs : List Check} → Plain cs → slotsHold cs ≡ true
+plain-holds : {cs : List Check} → Plain cs → slotsHold cs ≡ true
 unfolding slotsHold
 plain-holds none = refl
 plain-holds (more e h) = rw e (plain-holds h)
@@ -50,7 +50,7 @@ plain-append : {xs ys : List Check} → Plain xs → Plain ys → Plain (xs ++ y
 plain-append none k = k
 plain-append (more e h) k = more e (plain-append h k)
 
-pub plain-run : {f : ℕ → List Check} → ((i : ℕ) → Plain (f i)) → (i n : ℕ) → Plain (run f i n)
+plain-run : {f : ℕ → List Check} → ((i : ℕ) → Plain (f i)) → (i n : ℕ) → Plain (run f i n)
 unfolding run
 plain-run h i zero = none
 plain-run h i (suc n) = plain-append (h i) (plain-run h (suc i) n)

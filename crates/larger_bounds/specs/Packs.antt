@@ -66,8 +66,8 @@ SlotsUsedBelow p =
     → (byteOf p n 0 ≡ 2 → reactorAt p n .«state_slot» < stateBound p 0)
     × (byteOf p n 0 ≡ 3 → actionAt p n .«storage_slot» < actionBound p 0)
 
--- accepted, with a link count, exactly when accepted with that count without the slot checks and every slot used is below its bound
+-- accepted with a link count exactly when accepted with that count without the slot checks, and every slot used is below its bound
 abbrev pub EnclaveAcceptedExactly : Type 0
 EnclaveAcceptedExactly =
-    (p batch house : List ℕ) → Packed p batch house → (n : ℕ)
-    → (enclaveAnswer p batch house ≡ 0 ∷ n ∷ []) ↔ ((answerWithoutSlots p batch house ≡ 0 ∷ n ∷ []) × SlotsUsedBelow p)
+    (p batch house : List ℕ) → Packed p batch house → (count : ℕ)
+    → (enclaveAnswer p batch house ≡ 0 ∷ count ∷ []) ↔ ((answerWithoutSlots p batch house ≡ 0 ∷ count ∷ []) × SlotsUsedBelow p)

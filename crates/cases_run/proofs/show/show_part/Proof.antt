@@ -1,4 +1,4 @@
--- `cases_run::show::show_part` is safe and ends.
+-- `cases_run::show::show_part` is safe and ends. Assumes nothing.
 use lib.ListN.{length-take}
 use native.Mathlib.Omega.{arith}
 use borrow.Author.Needs.{needs}
