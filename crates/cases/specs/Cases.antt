@@ -62,8 +62,8 @@ cases =
     ∷ plain (enclaveS ++ (reactorS ++ (scopeUnder 1 ++ (scopeUnder 0 ++ bindingS)))) (18 ∷ 0 ∷ [])
     -- reactor 0 has modes 0+1, reactor 1 the empty span 0+0, rows otherwise in order: 14 table 2, 1, 4, 0, 1
     ∷ plain
-      (enclaveS ++ (reactor 0 0 1 ++ (reactor 1 0 0 ++ (mode 0 2 ++ (scope 0 ++ (scope 1 ++ (modeScope 0 0 ++ bindingS)))))))
-      (14 ∷ 2 ∷ 1 ∷ 4 ∷ 0 ∷ 1 ∷ [])
+    (enclaveS ++ (reactor 0 0 1 ++ (reactor 1 0 0 ++ (mode 0 2 ++ (scope 0 ++ (scope 1 ++ (modeScope 0 0 ++ bindingS)))))))
+    (14 ∷ 2 ∷ 1 ∷ 4 ∷ 0 ∷ 1 ∷ [])
     -- bank index 0 of 0, or 3 of 3: 22; bank 2 of 3 passes
     ∷ plain (enclaveS ++ (bankReactor 0 0 ++ (scopeS ++ bindingS))) (22 ∷ 0 ∷ 0 ∷ 0 ∷ [])
     ∷ plain (enclaveS ++ (bankReactor 3 3 ++ (scopeS ++ bindingS))) (22 ∷ 0 ∷ 3 ∷ 3 ∷ [])
@@ -82,13 +82,13 @@ cases =
     ∷ plain (enclaveS ++ (reactorS ++ (action 0 ++ (scopeS ++ bindingS)))) (23 ∷ 3 ∷ 0 ∷ 0 ∷ 0 ∷ [])
     -- an action and a port may both have triggers 0+1 (action slots 1, one trigger, one reaction, rows otherwise in order): accepted
     ∷ record {
-        pack =
-            enclave 0 1 1 1 ++ (reactorS ++ (boundAction 0 1 0 1 ++ (port 2 0 1 ++ (reaction 3 ++ (scopeS ++ (trigger 0 0
-            ++ (bindingS ++ (binding 3 2 ++ (binding 2 3 ++ binding 1 4)))))))));
-        batch = ab ++ (99 ∷ 100 ∷ 101 ∷ []);
-        house = [];
-        answer = 0 ∷ 0 ∷ [];
-      }
+      pack =
+          enclave 0 1 1 1 ++ (reactorS ++ (boundAction 0 1 0 1 ++ (port 2 0 1 ++ (reaction 3 ++ (scopeS ++ (trigger 0 0
+          ++ (bindingS ++ (binding 3 2 ++ (binding 2 3 ++ binding 1 4)))))))));
+      batch = ab ++ (99 ∷ 100 ∷ 101 ∷ []);
+      house = [];
+      answer = 0 ∷ 0 ∷ [];
+    }
     ∷ []
 
 unfoldable pub sameList : List ℕ → List ℕ → Bool

@@ -107,7 +107,11 @@ pub fn reactor(row: ReactorImage) -> Record
     let bank = row.bank;
     let mode = fields::mode_field(initial_mode);
     let bank = fields::bank_fields(bank);
-    let r = start(ReactorImage::TABLE, fields::bits(mode.present, bank.present), 0);
+    let r = start(
+        ReactorImage::TABLE,
+        fields::bits(mode.present, bank.present),
+        0,
+    );
     let r = word(r, 4, row.state_binding.0);
     let r = word(r, 8, row.state_slot);
     let r = word(r, 12, row.root_scope.0);
@@ -176,7 +180,11 @@ fn scope_members(row: ScopeImage) -> Record
     let mode = row.mode;
     let parent = fields::scope_field(parent);
     let mode = fields::mode_field(mode);
-    let r = start(ScopeImage::TABLE, fields::bits(parent.present, mode.present), 0);
+    let r = start(
+        ScopeImage::TABLE,
+        fields::bits(parent.present, mode.present),
+        0,
+    );
     let r = word(r, 4, parent.number);
     let r = word(r, 8, row.reactor.0);
     let r = word(r, 12, mode.number);
@@ -221,7 +229,11 @@ pub fn binding(row: RequiredBindingImage) -> Record
     let id = row.id;
     let kind = row.kind;
     let bits = fields::bits(id.house, false);
-    let r = start(RequiredBindingImage::TABLE, bits, fields::binding_kind(kind));
+    let r = start(
+        RequiredBindingImage::TABLE,
+        bits,
+        fields::binding_kind(kind),
+    );
     place(r, 4, id)
 }
 

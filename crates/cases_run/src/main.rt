@@ -3,7 +3,6 @@ mod rows;
 mod show;
 
 use cases::records;
-use schema::index::BindingKind;
 use schema::index::RouteDirection;
 use schema::lists::ReactionTrigger;
 use schema::rows::ActionImage;
@@ -26,23 +25,37 @@ fn station<'a>(
     put(&mut pack, 0, records::enclave(enclave));
     put(&mut pack, 1, records::reactor(reactor));
     put(&mut pack, 2, records::scope(scope));
-    put(&mut pack, 3, records::binding(rows::binding(1, BindingKind::StateInitializer)));
+    put(&mut pack, 3, records::binding(rows::binding_s()));
     show(name, &pack, len, batch);
 }
 
 fn with_enclave<'a>(name: &[u8], enclave: EnclaveImage, batch: &'a [u8]) {
-    station(name, enclave, ReactorImage::empty(), ScopeImage::empty(), 256, batch);
+    station(
+        name,
+        enclave,
+        ReactorImage::empty(),
+        ScopeImage::empty(),
+        256,
+        batch,
+    );
 }
 
 fn with_reactor(name: &[u8], reactor: ReactorImage) {
-    station(name, rows::enclave_s(), reactor, ScopeImage::empty(), 256, b"ab");
+    station(
+        name,
+        rows::enclave_s(),
+        reactor,
+        ScopeImage::empty(),
+        256,
+        b"ab",
+    );
 }
 
 fn without_reactor() {
     let mut pack = [0u8; 1024];
     put(&mut pack, 0, records::enclave(rows::enclave(0, 0, 1, 0)));
     put(&mut pack, 1, records::scope(ScopeImage::empty()));
-    put(&mut pack, 2, records::binding(rows::binding(1, BindingKind::StateInitializer)));
+    put(&mut pack, 2, records::binding(rows::binding_s()));
     show(b"S without its reactor, identity empty", &pack, 192, b"ab");
 }
 
@@ -52,7 +65,7 @@ fn two_scopes(name: &[u8], first: ScopeImage, second: ScopeImage) {
     put(&mut pack, 1, records::reactor(ReactorImage::empty()));
     put(&mut pack, 2, records::scope(first));
     put(&mut pack, 3, records::scope(second));
-    put(&mut pack, 4, records::binding(rows::binding(1, BindingKind::StateInitializer)));
+    put(&mut pack, 4, records::binding(rows::binding_s()));
     show(name, &pack, 320, b"ab");
 }
 
@@ -66,7 +79,7 @@ fn two_spans(name: &[u8], start: u64) {
     put(&mut pack, 4, records::scope(rows::scope(0)));
     put(&mut pack, 5, records::scope(rows::scope(1)));
     put(&mut pack, 6, records::scope(rows::mode_scope(0)));
-    put(&mut pack, 7, records::binding(rows::binding(1, BindingKind::StateInitializer)));
+    put(&mut pack, 7, records::binding(rows::binding_s()));
     show(name, &pack, 512, b"ab");
 }
 
@@ -76,7 +89,7 @@ fn with_action(name: &[u8], enclave: EnclaveImage, action: ActionImage) {
     put(&mut pack, 1, records::reactor(ReactorImage::empty()));
     put(&mut pack, 2, records::action(action));
     put(&mut pack, 3, records::scope(ScopeImage::empty()));
-    put(&mut pack, 4, records::binding(rows::binding(1, BindingKind::StateInitializer)));
+    put(&mut pack, 4, records::binding(rows::binding_s()));
     show(name, &pack, 320, b"ab");
 }
 
@@ -90,11 +103,16 @@ fn shared_trigger() {
     put(&mut pack, 4, records::reaction(rows::reaction(3)));
     put(&mut pack, 5, records::scope(ScopeImage::empty()));
     put(&mut pack, 6, records::trigger(ReactionTrigger::empty()));
-    put(&mut pack, 7, records::binding(rows::binding(1, BindingKind::StateInitializer)));
-    put(&mut pack, 8, records::binding(rows::binding(2, BindingKind::Action)));
-    put(&mut pack, 9, records::binding(rows::binding(3, BindingKind::Port)));
-    put(&mut pack, 10, records::binding(rows::binding(4, BindingKind::Reaction)));
-    show(b"an action and a port with triggers 0+1", &pack, 704, b"abcde");
+    put(&mut pack, 7, records::binding(rows::binding_s()));
+    put(&mut pack, 8, records::binding(rows::action_binding(2)));
+    put(&mut pack, 9, records::binding(rows::port_binding(3)));
+    put(&mut pack, 10, records::binding(rows::reaction_binding(4)));
+    show(
+        b"an action and a port with triggers 0+1",
+        &pack,
+        704,
+        b"abcde",
+    );
 }
 
 // A trigger that no range covers, and no reaction.
@@ -104,7 +122,7 @@ fn uncovered_trigger() {
     put(&mut pack, 1, records::reactor(ReactorImage::empty()));
     put(&mut pack, 2, records::scope(ScopeImage::empty()));
     put(&mut pack, 3, records::trigger(ReactionTrigger::empty()));
-    put(&mut pack, 4, records::binding(rows::binding(1, BindingKind::StateInitializer)));
+    put(&mut pack, 4, records::binding(rows::binding_s()));
     show(b"an entry that no range covers", &pack, 320, b"ab");
 }
 
@@ -116,8 +134,8 @@ fn one_half(name: &[u8], direction: RouteDirection) {
     put(&mut pack, 2, records::port(rows::port(1, 0)));
     put(&mut pack, 3, records::scope(ScopeImage::empty()));
     put(&mut pack, 4, records::route(rows::route(3, direction)));
-    put(&mut pack, 5, records::binding(rows::binding(1, BindingKind::StateInitializer)));
-    put(&mut pack, 6, records::binding(rows::binding(2, BindingKind::Port)));
+    put(&mut pack, 5, records::binding(rows::binding_s()));
+    put(&mut pack, 6, records::binding(rows::port_binding(2)));
     show(name, &pack, 448, b"abcd");
 }
 
@@ -130,8 +148,8 @@ fn two_halves(name: &[u8], first: RouteDirection, second: RouteDirection) {
     put(&mut pack, 3, records::scope(ScopeImage::empty()));
     put(&mut pack, 4, records::route(rows::route(3, first)));
     put(&mut pack, 5, records::route(rows::route(3, second)));
-    put(&mut pack, 6, records::binding(rows::binding(1, BindingKind::StateInitializer)));
-    put(&mut pack, 7, records::binding(rows::binding(2, BindingKind::Port)));
+    put(&mut pack, 6, records::binding(rows::binding_s()));
+    put(&mut pack, 7, records::binding(rows::port_binding(2)));
     show(name, &pack, 512, b"abcd");
 }
 
@@ -147,8 +165,16 @@ fn slots_and_parents() {
         256,
         b"ab",
     );
-    two_scopes(b"S and scope 1 under scope 0", ScopeImage::empty(), rows::scope_under(0));
-    two_scopes(b"each the other's parent", rows::scope_under(1), rows::scope_under(0));
+    two_scopes(
+        b"S and scope 1 under scope 0",
+        ScopeImage::empty(),
+        rows::scope_under(0),
+    );
+    two_scopes(
+        b"each the other's parent",
+        rows::scope_under(1),
+        rows::scope_under(0),
+    );
 }
 
 fn spans_and_banks() {
@@ -164,7 +190,11 @@ fn identities() {
     with_enclave(b"identity ` a`", rows::enclave(2, 2, 1, 0), b"ab a");
     with_enclave(b"identity U+00A0", rows::enclave(2, 2, 1, 0), b"ab\xC2\xA0");
     with_enclave(b"identity `a b`", rows::enclave(2, 3, 1, 0), b"aba b");
-    with_enclave(b"identity U+200B", rows::enclave(2, 3, 1, 0), b"ab\xE2\x80\x8B");
+    with_enclave(
+        b"identity U+200B",
+        rows::enclave(2, 3, 1, 0),
+        b"ab\xE2\x80\x8B",
+    );
 }
 
 fn actions() {
@@ -172,8 +202,16 @@ fn actions() {
     let none = rows::enclave_s();
     with_action(b"a timer with a binding", one, rows::bound_timer());
     with_action(b"a standard action without", one, ActionImage::empty());
-    with_action(b"a timer with a binding, action slots 0", none, rows::bound_timer());
-    with_action(b"a standard action without, action slots 0", none, ActionImage::empty());
+    with_action(
+        b"a timer with a binding, action slots 0",
+        none,
+        rows::bound_timer(),
+    );
+    with_action(
+        b"a standard action without, action slots 0",
+        none,
+        ActionImage::empty(),
+    );
     shared_trigger();
 }
 

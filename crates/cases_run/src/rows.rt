@@ -196,9 +196,28 @@ pub fn route(start: u32, direction: RouteDirection) -> RouteImage {
 }
 
 // A binding whose name is one byte of the batch text.
-pub fn binding(start: u32, kind: BindingKind) -> RequiredBindingImage {
+fn binding(start: u32, kind: BindingKind) -> RequiredBindingImage {
     RequiredBindingImage {
         id: place(start, 1),
         kind,
     }
+}
+
+// S's binding, the state initializer `b`: an empty binding with its name.
+pub fn binding_s() -> RequiredBindingImage {
+    let mut row = RequiredBindingImage::empty();
+    row.id = place(1, 1);
+    row
+}
+
+pub fn port_binding(start: u32) -> RequiredBindingImage {
+    binding(start, BindingKind::Port)
+}
+
+pub fn action_binding(start: u32) -> RequiredBindingImage {
+    binding(start, BindingKind::Action)
+}
+
+pub fn reaction_binding(start: u32) -> RequiredBindingImage {
+    binding(start, BindingKind::Reaction)
 }

@@ -24,7 +24,6 @@ pub fn entry_index(start: u32, k: u32) -> u32
     ((start as u64 + k as u64) % 0x1_0000_0000) as u32
 }
 
-
 fn level_equal(a: LevelReactionImage, b: LevelReactionImage) -> bool
     ensures { λ r. ⌜ r ≡ levelEqual a b ⌝ }
 {

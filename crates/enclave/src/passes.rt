@@ -45,7 +45,13 @@ fn check_length(s: &TableStarts, i: u32) -> Outcome
 fn check_root(s: &TableStarts) -> Outcome
     ensures { λ r. ⌜ Decides (rootChecks (image [] [] [] (now (s .entry)) 0) 0) r ⌝ }
 {
-    bindings::check_reactor(s, EnclaveImage::TABLE, 0, field::ROOT_REACTOR, ReactorIndex(0))
+    bindings::check_reactor(
+        s,
+        EnclaveImage::TABLE,
+        0,
+        field::ROOT_REACTOR,
+        ReactorIndex(0),
+    )
 }
 
 fn check_enclave_id<'a>(p: &'a [u8], batch: &'a [u8], house: &'a [u8], n: usize) -> Outcome

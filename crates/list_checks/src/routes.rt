@@ -113,13 +113,7 @@ pub fn check_route<'a>(
     let Outcome::Passed = b else {
         return b;
     };
-    crate::list_tables::check_port(
-        s,
-        RouteImage::TABLE,
-        i,
-        field::LOCAL_PORT,
-        route.local_port,
-    )
+    crate::list_tables::check_port(s, RouteImage::TABLE, i, field::LOCAL_PORT, route.local_port)
 }
 
 // Row i of the required bindings.

@@ -60,13 +60,7 @@ pub fn check_binding(
 }
 
 // A scope that a row names is there.
-pub fn check_scope(
-    s: &TableStarts,
-    table: u8,
-    index: u32,
-    field: u8,
-    key: ScopeIndex,
-) -> Outcome
+pub fn check_scope(s: &TableStarts, table: u8, index: u32, field: u8, key: ScopeIndex) -> Outcome
     ensures { λ r. ⌜ Decides (refTo (rowsOf (now (s .entry))) table index field 7 (key .0) ∷ []) r ⌝ }
 {
     let found = refs::check_scope_ref(s, table, index, field, key);

@@ -106,8 +106,7 @@ fn check_reaction_owner(p: &[u8], s: &TableStarts, i: u32, row: ReactionImage) -
         return scope;
     };
     let kind = BindingKind::Reaction;
-    let binding =
-        crate::bindings::check_binding(p, s, table, i, field::BINDING, kind, row.binding);
+    let binding = crate::bindings::check_binding(p, s, table, i, field::BINDING, kind, row.binding);
     let Outcome::Passed = binding else {
         return binding;
     };
@@ -174,7 +173,14 @@ fn check_reaction_ranges(
         return a;
     };
     let table = ReactionEffectPort::TABLE;
-    let b = check_range(s, i, field::EFFECT_PORTS, table, row.effect_ports, previous.effects);
+    let b = check_range(
+        s,
+        i,
+        field::EFFECT_PORTS,
+        table,
+        row.effect_ports,
+        previous.effects,
+    );
     let Outcome::Passed = b else {
         return b;
     };
@@ -184,7 +190,14 @@ fn check_reaction_ranges(
         return d;
     };
     let table = ReactionMode::TABLE;
-    check_range(s, i, field::ENABLED_MODES, table, row.enabled_modes, previous.enabled)
+    check_range(
+        s,
+        i,
+        field::ENABLED_MODES,
+        table,
+        row.enabled_modes,
+        previous.enabled,
+    )
 }
 
 fn check_reaction_row(
