@@ -30,6 +30,14 @@ abbrev pub parentsOutcome : Parents → EnclaveAnswer
 parentsOutcome (parents.Links n) = answer.Accepted n
 parentsOutcome (parents.Refused r) = answer.Refused r
 
+-- an image's checks and its link count as an answer
+abbrev pub answerOf : Outcome → ℕ → EnclaveAnswer
+answerOf Passed n = answer.Accepted n
+answerOf (Refused r) n = answer.Refused r
+
+unfoldable pub imageResult : Image → EnclaveAnswer
+imageResult m = answerOf (first (enclaveChecks m)) (links m)
+
 -- a refusal, or what follows a pass
 abbrev pub unless : Outcome → List ℕ → List ℕ
 unless Passed ns = ns

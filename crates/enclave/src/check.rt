@@ -1,7 +1,7 @@
 // The check of an enclave: packing, then the passes, with the links of its scopes.
 ghost use mathlib.Core.Path.{_≡_};
 ghost use Rattle.checks.specs.Image.{image};
-ghost use Rattle.enclave.specs.Answer.{outcomeAnswer, parentsOutcome, answerNumbers, imageAnswer, enclaveAnswer};
+ghost use Rattle.enclave.specs.Answer.{outcomeAnswer, parentsOutcome, answerNumbers, imageResult, enclaveAnswer};
 use crate::EnclaveAnswer;
 use answers::Outcome;
 use packing::PackKind;
@@ -9,7 +9,7 @@ use schema::TableStarts;
 use scope_checks::links::Parents;
 
 // A refusal, passed up.
-fn refused(outcome: Outcome) -> EnclaveAnswer
+pub fn refused(outcome: Outcome) -> EnclaveAnswer
     ensures { λ r. ⌜ r ≡ outcomeAnswer outcome ⌝ }
 {
     match outcome {
@@ -36,7 +36,7 @@ pub fn check_image<'a>(
     s: &'a TableStarts,
     n: usize,
 ) -> EnclaveAnswer
-    ensures { λ r. ⌜ answerNumbers r ≡ imageAnswer (image (now (p .entry)) (now (batch .entry)) (now (house .entry)) (now (s .entry)) n) ⌝ }
+    ensures { λ r. ⌜ r ≡ imageResult (image (now (p .entry)) (now (batch .entry)) (now (house .entry)) (now (s .entry)) n) ⌝ }
 {
     let rows = crate::passes::check_passes(p, batch, house, s, n, 0, 8);
     let Outcome::Passed = rows else {

@@ -1,25 +1,15 @@
 // The answer of a case.
-use answers::Outcome;
 use answers::Refusal;
 use enclave::EnclaveAnswer;
 use enclave::check::check_enclave;
-use packing::PackKind;
-use packing::rules::check_packing;
+use federate::FederateAnswer;
+use federate::check::check_federate;
 
 pub enum Answer {
     Enclave { links: u64 },
-    Federate { stations: u64, links: u64 },
+    Federate { enclaves: u64, links: u64 },
     Refused(Refusal),
-    // The packing rules pass, and no check after them is at hand.
-    Packed,
     UnknownKind,
-}
-
-fn packing_answer(outcome: Outcome) -> Answer {
-    match outcome {
-        Outcome::Passed => Answer::Packed,
-        Outcome::Refused(refusal) => Answer::Refused(refusal),
-    }
 }
 
 fn enclave_answer<'a>(pack: &'a [u8], batch: &'a [u8], house: &'a [u8]) -> Answer {
@@ -30,7 +20,13 @@ fn enclave_answer<'a>(pack: &'a [u8], batch: &'a [u8], house: &'a [u8]) -> Answe
 }
 
 fn federate_answer<'a>(pack: &'a [u8], batch: &'a [u8], house: &'a [u8]) -> Answer {
-    packing_answer(check_packing(PackKind::Federate, pack, batch, house))
+    match check_federate(pack, batch, house) {
+        FederateAnswer::Accepted { enclaves, links } => Answer::Federate {
+            enclaves: enclaves as u64,
+            links,
+        },
+        FederateAnswer::Refused(refusal) => Answer::Refused(refusal),
+    }
 }
 
 // The answer of a case whose first byte is `kind`.

@@ -68,12 +68,12 @@ fn put_links(out: &mut [u8], used: usize, links: u64) -> usize
     put_number(out, used, links)
 }
 
-fn put_stations(out: &mut [u8], used: usize, stations: u64, links: u64) -> usize
+fn put_enclaves(out: &mut [u8], used: usize, enclaves: u64, links: u64) -> usize
     requires { ⌜ used ≤ length (now out) ⌝ }
     ensures { λ r. ⌜ r ≤ length (now (out .exit)) ⌝ }
 {
     let used = put(out, used, b"accepted");
-    let used = put_number(out, used, stations);
+    let used = put_number(out, used, enclaves);
     put_number(out, used, links)
 }
 
@@ -84,9 +84,8 @@ fn put_answer(out: &mut [u8], used: usize, answer: Answer) -> usize
 {
     match answer {
         Answer::Enclave { links } => put_links(out, used, links),
-        Answer::Federate { stations, links } => put_stations(out, used, stations, links),
+        Answer::Federate { enclaves, links } => put_enclaves(out, used, enclaves, links),
         Answer::Refused(refusal) => put_refusal(out, used, refusal),
-        Answer::Packed => put(out, used, b"packed"),
         Answer::UnknownKind => put(out, used, b"unknown kind"),
     }
 }

@@ -8,7 +8,6 @@ use std::io::{self, BufRead, BufReader, Lines};
 enum Pair {
     Same,
     Skipped,
-    PackedOnly,
     Different,
 }
 
@@ -31,7 +30,6 @@ pub fn print(answers: &str, replayed: &str) -> Done {
             Pair::Different => return different(number, &ours, &theirs),
             Pair::Same => group(&ours),
             Pair::Skipped => "skip (not compared)".into(),
-            Pair::PackedOnly => "packed (compared for packing alone)".into(),
         };
         *counts.entry(group).or_default() += 1;
     }
@@ -52,7 +50,7 @@ fn different(number: u64, ours: &str, theirs: &str) -> Done {
     Ok(false)
 }
 
-/// A skip agrees with every answer that passes packing; `packed` with every answer but 1 to 6.
+/// A skip agrees with every answer that passes packing.
 fn pair_of(ours: &str, theirs: &str) -> Pair {
     let packing = |line: &str| {
         let number = line.strip_prefix("refused ").and_then(|rest| rest.split(' ').next());
@@ -62,11 +60,6 @@ fn pair_of(ours: &str, theirs: &str) -> Pair {
         Pair::Same
     } else if ours == "skip" && !packing(theirs) {
         Pair::Skipped
-    } else if theirs == "packed"
-        && !packing(ours)
-        && (ours.starts_with("accepted") || ours.starts_with("refused"))
-    {
-        Pair::PackedOnly
     } else {
         Pair::Different
     }

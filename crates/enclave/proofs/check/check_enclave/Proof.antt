@@ -1,5 +1,7 @@
 -- `enclave::check::check_enclave` meets its contract. Assumes nothing.
-use Rattle.enclave.specs.Answer.{enclaveAnswer}
+use mathlib.Core.Path.{_∙_, ap}
+use Rattle.enclave.specs.Answer.{answerNumbers, enclaveAnswer}
+use Rattle.enclave.proofs.Whole.{result-numbers}
 use borrow.Author.Needs.{needs}
 use Rattle.enclave.proofs.check.check_enclave.Statement.{statement}
 use Rattle.enclave.proofs.check.check_enclave.Tie as tie
@@ -10,7 +12,7 @@ returns c = rw (← c .before .before .before .check-packing .ensures, c .refuse
 
 returns-2 : tie.Need-returns-2
 unfolding enclaveAnswer
-returns-2 c = rw (← c .before .before .before .before .before .check-packing .ensures, c .before .before .before .enum-told .given .1, ← c .before .before .table-starts .ensures) (c .check-image .ensures)
+returns-2 c = rw (← c .before .before .before .before .before .check-packing .ensures, c .before .before .before .enum-told .given .1, ← c .before .before .table-starts .ensures) (ap answerNumbers (c .check-image .ensures) ∙ result-numbers _)
 
 pub check-enclave-spec : {M : Type 1} → statement M
 check-enclave-spec =

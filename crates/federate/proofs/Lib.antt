@@ -1,0 +1,5 @@
+pub mod Tests
+pub mod Counts
+pub mod Ends
+pub mod EnclaveLaws
+pub mod Whole

@@ -1,0 +1,5 @@
+pub mod Records
+pub mod Enclaves
+pub mod RoutePairs
+pub mod Federate
+pub mod Answer
