@@ -1,6 +1,6 @@
 -- The whole order of the enclave's checks, as the code goes through it, and the answer at each place where it can stop. Assumes nothing.
 use Prim.Native.Nat.{ℕ, _+_}
-use mathlib.Core.Path.{_≡_, refl, _∙_, ap, sym}
+use mathlib.Core.Path.{_≡_, refl, _∙_, sym}
 use mathlib.Core.List.{List, [], _∷_, _++_, append-assoc}
 use native.Mathlib.Omega.{arith}
 use Rattle.answers.specs.declared.Refusal.{Refusal}
@@ -13,7 +13,7 @@ use Rattle.scope_checks.specs.declared.links.Parents.{Parents}
 use Rattle.scope_checks.specs.declared.links.Parents.the-variants as parents
 use Rattle.scope_checks.specs.Scopes.{scopeChecks}
 use Rattle.scope_checks.specs.Links.{cycleChecks, links, parentsAnswer}
-use Rattle.enclave.specs.Passes.{Pass, over, rowPasses, listPasses, passes, passChecks, checksOf, enclaveChecks, passAt}
+use Rattle.enclave.specs.Passes.{Pass, rowPasses, listPasses, passes, passChecks, checksOf, enclaveChecks, passAt}
 use Rattle.enclave.specs.declared.EnclaveAnswer.the-variants as answer
 use Rattle.enclave.specs.Answer.{answerNumbers, answerOf, imageResult, unless, imageAnswer}
 

@@ -2,7 +2,7 @@
 use Prim.Native.Nat.{ℕ, zero, suc, _+_, _-_, _*_, _^_, _<_, _≤_}
 use mathlib.Core.Bool.{Bool, true, false, cond}
 use mathlib.Core.Path.{_≡_, refl, _∙_, ap, sym}
-use mathlib.Core.List.{List, []}
+use mathlib.Core.List.{List}
 use native.Mathlib.Nat.{mul-le-mul}
 use native.Mathlib.Numerals.{add-one}
 use native.Mathlib.Omega.{arith}
@@ -16,7 +16,7 @@ use Rattle.answers.specs.declared.Refusal.{Refusal}
 use Rattle.answers.specs.declared.Outcome.{Outcome}
 use Rattle.answers.specs.declared.Outcome.the-variants.{Passed, Refused}
 use Rattle.answers.specs.Checks.{first, run, Decides}
-use Rattle.answers.proofs.Laws.{none, skip, stop, first-past, first-stops}
+use Rattle.answers.proofs.Laws.{none, first-past, first-stops}
 use Rattle.answers.proofs.Loops.{Remaining, remaining-start, remaining-step, remaining-stop, remaining-none}
 use Rattle.packing.specs.Starts.{recordsOf, reaches, firstReaching, tableStarts}
 use Rattle.packing.proofs.TableStarts.{starts-at, records-few}
@@ -26,8 +26,8 @@ use Rattle.scope_checks.proofs.LinksLaws.{below-within}
 use Rattle.enclave.specs.declared.EnclaveAnswer.{EnclaveAnswer}
 use Rattle.enclave.specs.declared.EnclaveAnswer.the-variants as answer
 use Rattle.enclave.specs.Passes.{enclaveChecks}
-use Rattle.enclave.specs.Answer.{answerOf, imageResult, packImage}
-use Rattle.federate.specs.Records.{isOf, enclavesBefore, enclaveBefore, enclavePack, countBelow}
+use Rattle.enclave.specs.Answer.{answerOf, imageResult}
+use Rattle.federate.specs.Records.{isOf, enclavesBefore, enclaveBefore, enclavePack}
 use Rattle.federate.specs.Enclaves.{idAt, indexFrom, imageAt, orderChecks, recordChecks, linksBefore}
 use Rattle.federate.proofs.Counts.{Counted, counted-start, counted-one, counted-none}
 

@@ -1,6 +1,6 @@
 -- The answer at each place where the federate check can stop. Assumes nothing.
 use Prim.Native.Nat.{ℕ}
-use mathlib.Core.Path.{_≡_, refl, _∙_, ap, sym}
+use mathlib.Core.Path.{_≡_, refl, _∙_, ap}
 use mathlib.Core.List.{List, [], _∷_, _++_}
 use Rattle.identity.specs.Text.{identityText}
 use Rattle.answers.specs.declared.Refusal.{Refusal}

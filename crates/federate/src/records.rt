@@ -1,6 +1,6 @@
 // The records of a federate pack by their table, and the pack of each enclave in it.
 ghost use mathlib.Core.Path.{_≡_};
-ghost use Prim.Native.Nat.{_<_, _≤_};
+ghost use Prim.Native.Nat.{_<_};
 ghost use Rattle.packing.specs.Starts.{recordsOf};
 ghost use Rattle.federate.specs.Records.{isOf, enclavesOf, enclaveEnd, enclavePack};
 use schema::parts;

@@ -2,7 +2,6 @@
 ghost use mathlib.Core.Path.{_≡_};
 ghost use Rattle.identity.specs.Text.{identityText};
 ghost use Rattle.answers.specs.Checks.{run, Decides};
-ghost use Rattle.schema.specs.Rows.{routeAt};
 ghost use Rattle.packing.specs.Starts.{recordsOf};
 ghost use Rattle.federate.specs.RoutePairs.{domainNumber, isHalf, halfAt, halves, pairChecks, routeRecordChecks};
 use answers::Outcome;

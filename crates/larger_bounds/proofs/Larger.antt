@@ -45,7 +45,7 @@ module _ (m : Image) (state action : ℕ) where
   unfolding checksOf passChecks passes rowPasses listPasses portChecks reactionChecks modeChecks scopeChecks scopeRowChecks actionTriggerChecks portTriggerChecks enabledModesChecks scopeListChecks shutdownActionChecks routeChecks bindingIdChecks
   others-same = looser-same _
 
-  enclave-looser : m .stateSlots ≤ state → m .actionSlots ≤ action → Looser (enclaveChecks m) (enclaveChecks looser)
+  pub enclave-looser : m .stateSlots ≤ state → m .actionSlots ≤ action → Looser (enclaveChecks m) (enclaveChecks looser)
   unfolding enclaveChecks passes rowPasses
   enclave-looser h g =
       pass-looser _ _ (λ i. looser-same _)

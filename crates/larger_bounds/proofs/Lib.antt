@@ -8,3 +8,6 @@ pub mod TableRows
 pub mod SamePacks
 pub mod PacksLarger
 pub mod PacksExactly
+pub mod Parts
+pub mod SameFederates
+pub mod FederatesLarger

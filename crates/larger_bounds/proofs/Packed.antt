@@ -1,4 +1,4 @@
--- What the packing rules say of the tables of an enclave pack's records. Assumes nothing.
+-- What the packing rules say of the tables of a pack's records. Assumes nothing.
 use Prim.Native.Nat.{ℕ, zero, suc, _+_, _/_, _%_, _<_, _≤_}
 use mathlib.Core.Bool.{Bool, true, false, cond, true≢false}
 use mathlib.Core.Path.{_≡_, refl}
@@ -13,10 +13,11 @@ use Rattle.answers.specs.declared.Outcome.the-variants.{Passed}
 use Rattle.answers.specs.Checks.{Check, need, first, run}
 use Rattle.schema.specs.Layout.{layouts}
 use Rattle.schema.specs.Rows.{byteOf}
-use Rattle.packing.specs.declared.PackKind.the-variants.{Enclave}
+use Rattle.packing.specs.declared.PackKind.the-variants.{Enclave, Federate}
 use Rattle.packing.specs.Packing.{inPlace, recordChecks, packingChecks}
 use Rattle.packing.specs.Starts.{recordsOf}
 use Rattle.larger_bounds.specs.Packs.{Packed}
+use Rattle.larger_bounds.specs.Federates.{FederatePacked}
 use Rattle.larger_bounds.proofs.Tests.{both}
 
 -- where a list passes, each of its checks does
@@ -86,3 +87,14 @@ module _ (p batch house : List ℕ) (h : Packed p batch house) where
       let f = fits in
       let g = ltb-true 0 (length p) (both (ltb 0 (length p)) _ (passed-first _ _ _ h .0) .0) in
       enclave-first (omega arith)
+
+-- record 0 of a federate pack is the federate's
+pub federate-first : (p batch house : List ℕ) → FederatePacked p batch house → byteOf p 0 0 ≡ 0
+unfolding packingChecks recordChecks
+federate-first p batch house h =
+    let e = both (ltb 0 (length p)) _ (passed-first _ _ _ h .0) in
+    let f = both (leb (length p) 4194304) _ (e .1) in
+    let a = ltb-true 0 (length p) (e .0) in
+    let b = eqb-true (length p % 64) 0 (f .1) in
+    let rest = passed-first _ _ _ (passed-first _ _ _ (passed-first _ _ _ h .1) .1) .1 in
+    eqb-true (byteOf p 0 0) 0 (passed-first _ _ _ (passed-run (recordChecks Federate p batch house) 0 (length p / 64) rest 0 (omega arith) (omega arith)) .0)

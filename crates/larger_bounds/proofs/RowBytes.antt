@@ -21,15 +21,17 @@ field-end o [] (suc k) = omega arith
 field-end o (f ∷ fs) zero = let h = end-after (o + bytes f) fs in omega arith
 field-end o (f ∷ fs) (suc k) = field-end (o + bytes f) fs k
 
-module _ (p q : List ℕ) (n : ℕ) where
-  pub number-same : (k o : ℕ) → ((j : ℕ) → j < o + k → byteOf q n j ≡ byteOf p n j) → number k q (n * 64 + o) ≡ number k p (n * 64 + o)
+-- record m of q has the bytes of record n of p
+module _ (p q : List ℕ) (n m : ℕ) where
+  pub number-same : (k o : ℕ) → ((j : ℕ) → j < o + k → byteOf q m j ≡ byteOf p n j) → number k q (m * 64 + o) ≡ number k p (n * 64 + o)
   unfolding number
   number-same zero o h = refl
   number-same (suc k) o h =
-      let e : n * 64 + o + k ≡ n * 64 + (o + k) = omega arith in
-      rw (number-same k o (λ j l. h j (omega arith)), e, h (o + k) (omega arith))
+      let e : m * 64 + o + k ≡ m * 64 + (o + k) = omega arith in
+      let f : n * 64 + o + k ≡ n * 64 + (o + k) = omega arith in
+      rw (number-same k o (λ j l. h j (omega arith)), e, f, h (o + k) (omega arith))
 
-  pub row-same : {A : Type 0} (of : (ℕ → ℕ) → ℕ → ℕ → A) (l : Layout) → used l ≤ 64 → ((j : ℕ) → j < 68 → byteOf q n j ≡ byteOf p n j) → row of l q n ≡ row of l p n
+  pub row-same : {A : Type 0} (of : (ℕ → ℕ) → ℕ → ℕ → A) (l : Layout) → used l ≤ 64 → ((j : ℕ) → j < 68 → byteOf q m j ≡ byteOf p n j) → row of l q m ≡ row of l p n
   row-same of l u h =
-      let fields : field q n l ≡ field p n l = fun-ext (λ k. number-same (bytes (fieldAt l k)) (offset l k) (λ j i. h j (let e = field-end 4 (l .fields) k in omega arith))) in
+      let fields : field q m l ≡ field p n l = fun-ext (λ k. number-same (bytes (fieldAt l k)) (offset l k) (λ j i. h j (let e = field-end 4 (l .fields) k in omega arith))) in
       rw (fields, h 1 (omega arith), h 2 (omega arith))

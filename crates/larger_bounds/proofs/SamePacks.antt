@@ -48,7 +48,7 @@ inTables m =
 
 module _ (p q : List ℕ) (d : DifferInStorage p q) where
   -- a record's table number
-  table-same : (n : ℕ) → byteOf q n 0 ≡ byteOf p n 0
+  pub table-same : (n : ℕ) → byteOf q n 0 ≡ byteOf p n 0
   table-same n = d .1 n 0 (omega arith) (λ s. let l = s .1 in omega arith)
 
   -- the starts of tables
@@ -67,7 +67,7 @@ module _ (p q : List ℕ) (d : DifferInStorage p q) where
   starts-same rows = below-same rows 26
 
   -- the bytes of a record that is no enclave's, and the first four after it
-  record-same : (n : ℕ) → (byteOf p n 0 ≡ 1 → ⊥) → (j : ℕ) → j < 68 → byteOf q n j ≡ byteOf p n j
+  pub record-same : (n : ℕ) → (byteOf p n 0 ≡ 1 → ⊥) → (j : ℕ) → j < 68 → byteOf q n j ≡ byteOf p n j
   record-same n o j l =
       elim (decLe 64 j) [
         | yes g ↦ (let e : n * 64 + j ≡ suc n * 64 + (j - 64) = omega arith in rw e (d .1 (suc n) (j - 64) (omega arith) (λ s. let b = s .1 in omega arith)))
@@ -78,13 +78,13 @@ module _ (p q : List ℕ) (d : DifferInStorage p q) where
   head-same : (n j : ℕ) → j < 12 → byteOf q n j ≡ byteOf p n j
   head-same n j l = d .1 n j (omega arith) (λ s. let b = s .1 in omega arith)
 
-  identity-same : (n : ℕ) → enclaveAt q n .«enclave_id» ≡ enclaveAt p n .«enclave_id»
+  pub identity-same : (n : ℕ) → enclaveAt q n .«enclave_id» ≡ enclaveAt p n .«enclave_id»
   unfolding enclaveAt
   identity-same n =
       rw (
         head-same n 1 (omega arith),
-        number-same p q n 4 4 (λ j l. head-same n j (omega arith)),
-        number-same p q n 4 8 (λ j l. head-same n j (omega arith)),
+        number-same p q n n 4 4 (λ j l. head-same n j (omega arith)),
+        number-same p q n n 4 8 (λ j l. head-same n j (omega arith)),
       )
 
   -- a pack whose only enclave is record 0's
@@ -94,7 +94,7 @@ module _ (p q : List ℕ) (d : DifferInStorage p q) where
     not-enclave (suc n) l e = single n e
 
     rows-same : {A : Type 0} (of : (ℕ → ℕ) → ℕ → ℕ → A) (l : Layout) → used l ≤ 64 → (n : ℕ) → 1 ≤ n → row of l q n ≡ row of l p n
-    rows-same of l u n g = row-same p q n of l u (record-same n (not-enclave n g))
+    rows-same of l u n g = row-same p q n n of l u (record-same n (not-enclave n g))
 
     table-start : (t i : ℕ) → 1 ≤ startOf (tableStarts p 1) (tableIn t) + i
     table-start t i = go (ltb t 26) refl

@@ -1,7 +1,7 @@
 -- In an enclave pack that passes the packing rules, the rows of a table are the records of that table. Assumes nothing.
 use Prim.Native.Nat.{ℕ, zero, suc, _+_, _/_, _<_, _≤_}
-use mathlib.Core.Bool.{Bool, true, false, not}
-use mathlib.Core.Path.{_≡_, refl, sym}
+use mathlib.Core.Bool.{true, false, not}
+use mathlib.Core.Path.{_≡_, sym}
 use mathlib.Core.List.{List}
 use native.Mathlib.Decide.{decLe}
 use native.Mathlib.Omega.{arith}
@@ -13,12 +13,8 @@ use Rattle.packing.specs.Starts.{recordsOf, reaches, firstReaching, tableStarts
 use Rattle.packing.proofs.TableStarts.{starts-at, starts-from}
 use Rattle.checks.specs.Image.{startOf, rowsOf}
 use Rattle.larger_bounds.specs.Packs.{Packed}
-use Rattle.larger_bounds.proofs.Tests.{neither}
+use Rattle.larger_bounds.proofs.Tests.{cases, neither}
 use Rattle.larger_bounds.proofs.Packed.{records, enclave-first, rows-above}
-
-cases : {A : Type 0} (b : Bool) → (b ≡ true → A) → (b ≡ false → A) → A
-cases true f g = f refl
-cases false f g = g refl
 
 module _ (p : List ℕ) (t : ℕ) where
   not-reached : (k : ℕ) → reaches p t k ≡ false → (k < recordsOf p) × (2 ≤ byteOf p k 0) × (byteOf p k 0 < t)

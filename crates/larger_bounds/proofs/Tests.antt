@@ -1,6 +1,11 @@
--- What two tests together say of each. Assumes nothing.
+-- By cases on a test, and what two tests together say of each. Assumes nothing.
 use mathlib.Core.Bool.{Bool, true, false, _&&_, _||_, true≢false}
 use mathlib.Core.Path.{_≡_, refl, sym}
+
+-- by cases on a test
+pub cases : {A : Type 0} (b : Bool) → (b ≡ true → A) → (b ≡ false → A) → A
+cases true f g = f refl
+cases false f g = g refl
 
 pub both : (a b : Bool) → (a && b) ≡ true → (a ≡ true) × (b ≡ true)
 both true true e = (refl, refl)

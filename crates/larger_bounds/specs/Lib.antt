@@ -1,2 +1,3 @@
 pub mod Images
 pub mod Packs
+pub mod Federates
