@@ -1,5 +1,5 @@
 -- What a row's bits, kinds and optional fields are in its record (document 01, "The pack"). Assumes nothing.
-use Prim.Native.Nat.{ℕ}
+use Prim.Native.Nat.{ℕ, _+_}
 use mathlib.Core.Bool.{Bool, true, false}
 use Rattle.schema.specs.declared.index.MaybeMode.{MaybeMode}
 use Rattle.schema.specs.declared.index.MaybeMode.the-variants.{NoMode, Mode}
@@ -34,6 +34,11 @@ bits false false = 0
 bits true false = 1
 bits false true = 2
 bits true true = 3
+
+-- three bits, the lowest first
+abbrev pub threeBits : Bool → Bool → Bool → ℕ
+threeBits low middle false = bits low middle
+threeBits low middle true = 4 + bits low middle
 
 abbrev pub absent : Optional
 absent = record { present = false; number = 0 }

@@ -20,6 +20,11 @@ rec table bits kind fields = take 64 (table ∷ bits ∷ kind ∷ 0 ∷ (fields 
 
 -- the records of each table. Fields that are left out, at a record's end, are zero
 
+-- 0: a federate whose id, target and runtime are the third byte of the batch text, by the start and length of its enclaves span
+abbrev pub federate : ℕ → ℕ → List ℕ
+federate start len =
+    rec 0 0 0 (W 2 ++ (W 1 ++ (W 2 ++ (W 1 ++ (W 2 ++ (W 1 ++ (D start ++ D len)))))))
+
 -- 1: an enclave, its identity's start and length in the batch text, state slots and action slots
 abbrev pub enclave : ℕ → ℕ → ℕ → ℕ → List ℕ
 enclave start len states actions = rec 1 0 0 (W start ++ (W len ++ (W states ++ W actions)))

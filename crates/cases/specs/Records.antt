@@ -6,6 +6,7 @@ use lib.ListN.{set}
 use Rattle.identity.specs.declared.IdentityPlace.{IdentityPlace}
 use Rattle.range.specs.declared.SliceRange.{SliceRange}
 use Rattle.range.specs.declared.IndexSpan.{IndexSpan}
+use Rattle.schema.specs.declared.rows.FederateImage.{FederateImage}
 use Rattle.schema.specs.declared.rows.EnclaveImage.{EnclaveImage}
 use Rattle.schema.specs.declared.rows.ReactorImage.{ReactorImage}
 use Rattle.schema.specs.declared.rows.ActionImage.{ActionImage}
@@ -17,7 +18,7 @@ use Rattle.schema.specs.declared.rows.RouteImage.{RouteImage}
 use Rattle.schema.specs.declared.rows.RequiredBindingImage.{RequiredBindingImage}
 use Rattle.schema.specs.declared.lists.LevelReactionImage.{LevelReactionImage}
 use Rattle.cases.specs.Packs.{W, D, rec}
-use Rattle.cases.specs.Fields.{bits, modeField, scopeField, bindingField, bankFields, timingFields, effectFields, physical, outbound, bindingKind}
+use Rattle.cases.specs.Fields.{bits, threeBits, modeField, scopeField, bindingField, bankFields, timingFields, effectFields, physical, outbound, bindingKind}
 
 -- the list r with the k bytes of n from the offset o, high byte first
 unfoldable pub putNumber : ℕ → List ℕ → ℕ → ℕ → List ℕ
@@ -32,6 +33,11 @@ span r = D (r .start) ++ D (r .len)
 
 abbrev pub place : IdentityPlace → List ℕ
 place id = W (id .start) ++ W (id .len)
+
+unfoldable pub federateRecord : FederateImage → List ℕ
+federateRecord row =
+    rec 0 (threeBits (row .id .house) (row .target .house) (row .runtime .house)) 0
+    (place (row .id) ++ (place (row .target) ++ (place (row .runtime) ++ span (row .enclaves .0))))
 
 unfoldable pub enclaveRecord : EnclaveImage → List ℕ
 enclaveRecord row =

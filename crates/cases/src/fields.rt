@@ -57,6 +57,25 @@ pub fn bits(low: bool, high: bool) -> u8
     0
 }
 
+// Three bits of a byte, the lowest first.
+pub fn three_bits(low: bool, middle: bool, high: bool) -> u8
+    ensures { λ r. ⌜ r ≡ spec.threeBits low middle high ⌝ }
+{
+    if high {
+        if low {
+            if middle {
+                return 7;
+            }
+            return 5;
+        }
+        if middle {
+            return 6;
+        }
+        return 4;
+    }
+    bits(low, middle)
+}
+
 fn absent() -> Optional
     ensures { λ r. ⌜ r ≡ spec.absent ⌝ }
 {

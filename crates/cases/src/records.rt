@@ -5,7 +5,7 @@ ghost use Prim.Native.Nat.{_+_, _*_, _<_, _≤_};
 ghost use lib.ListN.{length};
 ghost use lib.Seq.{paste};
 ghost use Rattle.cases.specs.Packs.{rec};
-ghost use Rattle.cases.specs.Records.{putNumber, enclaveRecord, reactorRecord, actionRecord, portRecord, reactionRecord, modeRecord, scopeMembersRecord, scopeRecord, triggerRecord, routeRecord, bindingRecord};
+ghost use Rattle.cases.specs.Records.{putNumber, federateRecord, enclaveRecord, reactorRecord, actionRecord, portRecord, reactionRecord, modeRecord, scopeMembersRecord, scopeRecord, triggerRecord, routeRecord, bindingRecord};
 use crate::fields;
 use identity::IdentityPlace;
 use range::IndexSpan;
@@ -13,6 +13,7 @@ use range::SliceRange;
 use schema::lists::ReactionTrigger;
 use schema::rows::ActionImage;
 use schema::rows::EnclaveImage;
+use schema::rows::FederateImage;
 use schema::rows::ModeImage;
 use schema::rows::PortImage;
 use schema::rows::ReactionImage;
@@ -83,6 +84,20 @@ fn place(bytes: Record, at: usize, id: IdentityPlace) -> Record
     ensures { λ r. ⌜ r ≡ putNumber 4 (putNumber 4 bytes at (id .start)) (at + 4) (id .len) ⌝ }
 {
     word(word(bytes, at, id.start), at + 4, id.len)
+}
+
+pub fn federate(row: FederateImage) -> Record
+    ensures { λ r. ⌜ r ≡ federateRecord row ⌝ }
+{
+    let id = row.id;
+    let target = row.target;
+    let runtime = row.runtime;
+    let bits = fields::three_bits(id.house, target.house, runtime.house);
+    let r = start(FederateImage::TABLE, bits, 0);
+    let r = place(r, 4, id);
+    let r = place(r, 12, target);
+    let r = place(r, 20, runtime);
+    span(r, 28, row.enclaves.0)
 }
 
 pub fn enclave(row: EnclaveImage) -> Record

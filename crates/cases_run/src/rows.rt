@@ -1,5 +1,6 @@
 // The rows of the cases: each starts from its empty row and sets what differs.
 use identity::IdentityPlace;
+use range::EnclaveSpan;
 use range::IndexSpan;
 use range::ModeSpan;
 use range::SliceRange;
@@ -16,8 +17,10 @@ use schema::index::ModeIndex;
 use schema::index::ReactorIndex;
 use schema::index::RouteDirection;
 use schema::index::ScopeIndex;
+use schema::index::TimingDomain;
 use schema::rows::ActionImage;
 use schema::rows::EnclaveImage;
+use schema::rows::FederateImage;
 use schema::rows::ModeImage;
 use schema::rows::PortImage;
 use schema::rows::ReactionImage;
@@ -33,6 +36,17 @@ fn place(start: u32, len: u32) -> IdentityPlace {
         start,
         len,
     }
+}
+
+// A federate whose id, target and runtime are one byte of the batch text, with the span of its enclaves.
+pub fn federate(name: u32, start: u64, len: u64) -> FederateImage {
+    let mut row = FederateImage::empty();
+    row.id = place(name, 1);
+    row.target = place(name, 1);
+    row.runtime = place(name, 1);
+    let enclaves = EnclaveSpan(IndexSpan { start, len });
+    row.enclaves = enclaves;
+    row
 }
 
 pub fn enclave(start: u32, len: u32, state_slots: u32, action_slots: u32) -> EnclaveImage {
@@ -181,18 +195,29 @@ pub fn mode_scope(mode: u32) -> ScopeImage {
     owned_scope(MaybeScope::NoScope, MaybeMode::Mode(ModeIndex(mode)))
 }
 
-// A half of the boundary whose name is one byte of the batch text.
-pub fn route(start: u32, direction: RouteDirection) -> RouteImage {
+// A half of the boundary whose name is one byte of the batch text, with a domain and a delay.
+pub fn timed_route(
+    start: u32,
+    direction: RouteDirection,
+    timing_domain: TimingDomain,
+    delay_nanos: u64,
+) -> RouteImage {
     let row = RouteImage::empty();
     let local_port = row.local_port;
-    let timing_domain = row.timing_domain;
     RouteImage {
         boundary: place(start, 1),
         local_port,
         direction,
         timing_domain,
-        delay_nanos: row.delay_nanos,
+        delay_nanos,
     }
+}
+
+// The same with the empty row's domain and delay.
+pub fn route(start: u32, direction: RouteDirection) -> RouteImage {
+    let row = RouteImage::empty();
+    let timing_domain = row.timing_domain;
+    timed_route(start, direction, timing_domain, row.delay_nanos)
 }
 
 // A binding whose name is one byte of the batch text.

@@ -1,17 +1,20 @@
-// A line for each case: its name, and the answer of the enclave check for its pack.
-ghost use Prim.Native.Nat.{_<_};
+// A line for each case: its name, and the answer of the check for its pack.
+ghost use Prim.Native.Nat.{_<_, _≤_};
 use answers::Refusal;
 use cases::records::Record;
 use enclave::EnclaveAnswer;
 use enclave::check::check_enclave;
+use federate::FederateAnswer;
+use federate::check::check_federate;
 use libc::STDOUT_FILENO;
+use packing::PackKind;
 
-// Room for 16 records.
-pub type Pack = [u8; 1024];
+// Room for 32 records.
+pub type Pack = [u8; 2048];
 
 // Puts a record into a pack, as its record n.
 pub fn put(pack: &mut Pack, n: usize, bytes: Record)
-    requires { ⌜ n < 16 ⌝ }
+    requires { ⌜ n < 32 ⌝ }
 {
     cases::records::put(pack, n, bytes);
 }
@@ -45,26 +48,53 @@ fn write_links(links: u64) {
     write_number(links);
 }
 
-fn write_answer(answer: EnclaveAnswer) {
+fn write_enclaves(enclaves: u32, links: u64) {
+    write(b": accepted");
+    write_number(enclaves as u64);
+    write_number(links);
+}
+
+fn write_enclave_answer(answer: EnclaveAnswer) {
     match answer {
         EnclaveAnswer::Accepted { links } => write_links(links),
         EnclaveAnswer::Refused(refusal) => write_refusal(refusal),
     }
 }
 
-fn show_bytes<'a>(name: &[u8], pack: &'a [u8], batch: &'a [u8]) {
-    write(name);
-    write_answer(check_enclave(pack, batch, b""));
-    write(b"\n");
-}
-
-fn show_part<'a>(name: &[u8], pack: &'a [u8], len: usize, batch: &'a [u8]) {
-    if len <= pack.len() {
-        show_bytes(name, &pack[..len], batch);
+fn write_federate_answer(answer: FederateAnswer) {
+    match answer {
+        FederateAnswer::Accepted { enclaves, links } => write_enclaves(enclaves, links),
+        FederateAnswer::Refused(refusal) => write_refusal(refusal),
     }
 }
 
-// The first `len` bytes of a pack.
-pub fn show<'a>(name: &[u8], pack: &'a Pack, len: usize, batch: &'a [u8]) {
-    show_part(name, pack, len, batch);
+fn write_answer<'a>(kind: PackKind, pack: &'a [u8], batch: &'a [u8]) {
+    match kind {
+        PackKind::Enclave => write_enclave_answer(check_enclave(pack, batch, b"")),
+        PackKind::Federate => write_federate_answer(check_federate(pack, batch, b"")),
+    }
+}
+
+fn show_bytes<'a>(name: &[u8], kind: PackKind, pack: &'a [u8], batch: &'a [u8]) {
+    write(name);
+    write_answer(kind, pack, batch);
+    write(b"\n");
+}
+
+fn show_part<'a>(name: &[u8], kind: PackKind, pack: &'a [u8], len: usize, batch: &'a [u8]) {
+    if len <= pack.len() {
+        show_bytes(name, kind, &pack[..len], batch);
+    }
+}
+
+// The first `len` bytes of a pack, as a station.
+pub fn show_enclave<'a>(name: &[u8], pack: &'a Pack, len: usize, batch: &'a [u8]) {
+    show_part(name, PackKind::Enclave, pack, len, batch);
+}
+
+// The first records of a pack, as a line.
+pub fn show_federate<'a>(name: &[u8], pack: &'a Pack, records: usize, batch: &'a [u8])
+    requires { ⌜ records ≤ 32 ⌝ }
+{
+    show_part(name, PackKind::Federate, pack, records * 64, batch);
 }
