@@ -1,5 +1,6 @@
 //! The styles of cases, and how often each is taken.
 use crate::damage::{damage, spoil_row};
+use crate::deep::deep;
 use crate::line::{grown, Extent};
 use crate::plan::{Size, SMALL};
 use crate::rng::Rng;
@@ -43,18 +44,22 @@ pub struct Mix {
     kind: Option<Kind>,
     /// Long texts and packs at the limit now and then.
     rarities: bool,
-    large: bool,
+    special: Option<fn(&mut Rng, Kind) -> Case>,
 }
 
 impl Mix {
-    /// The mix with this name: a group, a style, or `large`.
+    /// The mix with this name: a group, a style, `large` or `deep`.
     pub fn named(name: &str) -> Option<Self> {
         let found = GROUPS.iter().find(|group| group.0 == name);
         let (names, kind) = found.map_or((vec![name], None), |group| (group.1.to_vec(), group.2));
         let styles: Vec<&Style> = STYLES.iter().filter(|style| names.contains(&style.name)).collect();
-        let large = name == "large";
+        let special: Option<fn(&mut Rng, Kind) -> Case> = match name {
+            "large" => Some(large),
+            "deep" => Some(deep_image),
+            _ => None,
+        };
         let rarities = name == "all" || name == "packing";
-        (large || !styles.is_empty()).then_some(Mix { styles, kind, rarities, large })
+        (special.is_some() || !styles.is_empty()).then_some(Mix { styles, kind, rarities, special })
     }
 
     /// Case `index` of `seed`.
@@ -62,8 +67,8 @@ impl Mix {
         let mut rng = Rng::of_case(seed, index);
         let of_line = rng.chance(2, 5);
         let kind = self.kind.unwrap_or(if of_line { Kind::Federate } else { Kind::Enclave });
-        if self.large {
-            return large(&mut rng, kind);
+        if let Some(make) = self.special {
+            return make(&mut rng, kind);
         }
         if self.rarities && rng.chance(1, 40_000) {
             return at_the_limit(&mut rng, kind);
@@ -198,5 +203,11 @@ fn large(rng: &mut Rng, kind: Kind) -> Case {
     if rng.chance(1, 2) {
         damage(rng, &mut rows, &mut texts, None);
     }
+    case(kind, &rows, texts)
+}
+
+/// Images with thousands of scopes and routes.
+fn deep_image(rng: &mut Rng, kind: Kind) -> Case {
+    let (rows, texts) = deep(rng, kind);
     case(kind, &rows, texts)
 }
