@@ -1,6 +1,6 @@
 // Readers of the list tables 8 to 22, by slice and record number. A record past the pack is the empty row.
 ghost use mathlib.Core.Path.{_≡_};
-ghost use Rattle.schema.specs.Rows.{indexAt, levelAt, startupAt, lifecycleAt};
+ghost use Rattle.schema.specs.Rows.{empty, indexOf, levelOf, startupOf, lifecycleOf, indexAt, levelAt, startupAt, lifecycleAt};
 use crate::index::ActionIndex;
 use crate::index::ModeIndex;
 use crate::index::PortIndex;
@@ -27,18 +27,23 @@ use crate::lists::TimerStartupImage;
 use crate::read::long_of;
 use crate::read::word_of;
 
-// One index.
-fn index_at(p: &[u8], n: usize) -> u32
+// One index. Past the pack it is `past`, which the row kind gives; so also below.
+fn index_or(p: &[u8], n: usize, past: u32) -> u32
+    requires { ⌜ past ≡ empty indexOf ⌝ }
     ensures { λ r. ⌜ r ≡ indexAt (now (p .entry)) n ⌝ }
 {
-    crate::parts::word_at(p, n, 4)
+    if p.len() / 64 < n {
+        return past;
+    }
+    word_of(p, n, 4)
 }
 
-pub fn level_at(p: &[u8], n: usize) -> LevelReactionImage
+fn level_or(p: &[u8], n: usize, past: LevelReactionImage) -> LevelReactionImage
+    requires { ⌜ past ≡ empty levelOf ⌝ }
     ensures { λ r. ⌜ r ≡ levelAt (now (p .entry)) n ⌝ }
 {
     if p.len() / 64 < n {
-        return LevelReactionImage::empty();
+        return past;
     }
     LevelReactionImage {
         level: word_of(p, n, 4),
@@ -46,11 +51,12 @@ pub fn level_at(p: &[u8], n: usize) -> LevelReactionImage
     }
 }
 
-pub fn startup_at(p: &[u8], n: usize) -> TimerStartupImage
+fn startup_or(p: &[u8], n: usize, past: TimerStartupImage) -> TimerStartupImage
+    requires { ⌜ past ≡ empty startupOf ⌝ }
     ensures { λ r. ⌜ r ≡ startupAt (now (p .entry)) n ⌝ }
 {
     if p.len() / 64 < n {
-        return TimerStartupImage::empty();
+        return past;
     }
     TimerStartupImage {
         action: ActionIndex(word_of(p, n, 4)),
@@ -58,11 +64,12 @@ pub fn startup_at(p: &[u8], n: usize) -> TimerStartupImage
     }
 }
 
-pub fn lifecycle_at(p: &[u8], n: usize) -> LifecycleReactionImage
+fn lifecycle_or(p: &[u8], n: usize, past: LifecycleReactionImage) -> LifecycleReactionImage
+    requires { ⌜ past ≡ empty lifecycleOf ⌝ }
     ensures { λ r. ⌜ r ≡ lifecycleAt (now (p .entry)) n ⌝ }
 {
     if p.len() / 64 < n {
-        return LifecycleReactionImage::empty();
+        return past;
     }
     LifecycleReactionImage {
         reaction: LevelReactionImage {
@@ -73,92 +80,110 @@ pub fn lifecycle_at(p: &[u8], n: usize) -> LifecycleReactionImage
     }
 }
 
+pub fn level_at(p: &[u8], n: usize) -> LevelReactionImage
+    ensures { λ r. ⌜ r ≡ levelAt (now (p .entry)) n ⌝ }
+{
+    level_or(p, n, LevelReactionImage::empty())
+}
+
+pub fn startup_at(p: &[u8], n: usize) -> TimerStartupImage
+    ensures { λ r. ⌜ r ≡ startupAt (now (p .entry)) n ⌝ }
+{
+    startup_or(p, n, TimerStartupImage::empty())
+}
+
+pub fn lifecycle_at(p: &[u8], n: usize) -> LifecycleReactionImage
+    ensures { λ r. ⌜ r ≡ lifecycleAt (now (p .entry)) n ⌝ }
+{
+    lifecycle_or(p, n, LifecycleReactionImage::empty())
+}
+
 pub fn reaction_trigger_at(p: &[u8], n: usize) -> ReactionTrigger
     ensures { λ r. ⌜ r .0 ≡ levelAt (now (p .entry)) n ⌝ }
 {
-    ReactionTrigger(level_at(p, n))
+    ReactionTrigger(level_or(p, n, ReactionTrigger::empty().0))
 }
 
 pub fn reaction_use_port_at(p: &[u8], n: usize) -> ReactionUsePort
     ensures { λ r. ⌜ r .0 .0 ≡ indexAt (now (p .entry)) n ⌝ }
 {
-    ReactionUsePort(PortIndex(index_at(p, n)))
+    ReactionUsePort(PortIndex(index_or(p, n, ReactionUsePort::empty().0.0)))
 }
 
 pub fn reaction_effect_port_at(p: &[u8], n: usize) -> ReactionEffectPort
     ensures { λ r. ⌜ r .0 .0 ≡ indexAt (now (p .entry)) n ⌝ }
 {
-    ReactionEffectPort(PortIndex(index_at(p, n)))
+    ReactionEffectPort(PortIndex(index_or(p, n, ReactionEffectPort::empty().0.0)))
 }
 
 pub fn reaction_action_at(p: &[u8], n: usize) -> ReactionAction
     ensures { λ r. ⌜ r .0 .0 ≡ indexAt (now (p .entry)) n ⌝ }
 {
-    ReactionAction(ActionIndex(index_at(p, n)))
+    ReactionAction(ActionIndex(index_or(p, n, ReactionAction::empty().0.0)))
 }
 
 pub fn reaction_mode_at(p: &[u8], n: usize) -> ReactionMode
     ensures { λ r. ⌜ r .0 .0 ≡ indexAt (now (p .entry)) n ⌝ }
 {
-    ReactionMode(ModeIndex(index_at(p, n)))
+    ReactionMode(ModeIndex(index_or(p, n, ReactionMode::empty().0.0)))
 }
 
 pub fn scope_descendant_at(p: &[u8], n: usize) -> ScopeDescendant
     ensures { λ r. ⌜ r .0 .0 ≡ indexAt (now (p .entry)) n ⌝ }
 {
-    ScopeDescendant(ScopeIndex(index_at(p, n)))
+    ScopeDescendant(ScopeIndex(index_or(p, n, ScopeDescendant::empty().0.0)))
 }
 
 pub fn scope_logical_action_at(p: &[u8], n: usize) -> ScopeLogicalAction
     ensures { λ r. ⌜ r .0 .0 ≡ indexAt (now (p .entry)) n ⌝ }
 {
-    ScopeLogicalAction(ActionIndex(index_at(p, n)))
+    ScopeLogicalAction(ActionIndex(index_or(p, n, ScopeLogicalAction::empty().0.0)))
 }
 
 pub fn scope_timer_startup_at(p: &[u8], n: usize) -> ScopeTimerStartup
     ensures { λ r. ⌜ r .0 ≡ startupAt (now (p .entry)) n ⌝ }
 {
-    ScopeTimerStartup(startup_at(p, n))
+    ScopeTimerStartup(startup_or(p, n, ScopeTimerStartup::empty().0))
 }
 
 pub fn scope_reset_reaction_at(p: &[u8], n: usize) -> ScopeResetReaction
     ensures { λ r. ⌜ r .0 ≡ levelAt (now (p .entry)) n ⌝ }
 {
-    ScopeResetReaction(level_at(p, n))
+    ScopeResetReaction(level_or(p, n, ScopeResetReaction::empty().0))
 }
 
 pub fn scope_startup_reaction_at(p: &[u8], n: usize) -> ScopeStartupReaction
     ensures { λ r. ⌜ r .0 ≡ lifecycleAt (now (p .entry)) n ⌝ }
 {
-    ScopeStartupReaction(lifecycle_at(p, n))
+    ScopeStartupReaction(lifecycle_or(p, n, ScopeStartupReaction::empty().0))
 }
 
 pub fn scope_shutdown_reaction_at(p: &[u8], n: usize) -> ScopeShutdownReaction
     ensures { λ r. ⌜ r .0 ≡ lifecycleAt (now (p .entry)) n ⌝ }
 {
-    ScopeShutdownReaction(lifecycle_at(p, n))
+    ScopeShutdownReaction(lifecycle_or(p, n, ScopeShutdownReaction::empty().0))
 }
 
 pub fn startup_action_at(p: &[u8], n: usize) -> StartupAction
     ensures { λ r. ⌜ r .0 ≡ startupAt (now (p .entry)) n ⌝ }
 {
-    StartupAction(startup_at(p, n))
+    StartupAction(startup_or(p, n, StartupAction::empty().0))
 }
 
 pub fn timer_startup_action_at(p: &[u8], n: usize) -> TimerStartupAction
     ensures { λ r. ⌜ r .0 ≡ startupAt (now (p .entry)) n ⌝ }
 {
-    TimerStartupAction(startup_at(p, n))
+    TimerStartupAction(startup_or(p, n, TimerStartupAction::empty().0))
 }
 
 pub fn shutdown_reaction_at(p: &[u8], n: usize) -> ShutdownReaction
     ensures { λ r. ⌜ r .0 ≡ lifecycleAt (now (p .entry)) n ⌝ }
 {
-    ShutdownReaction(lifecycle_at(p, n))
+    ShutdownReaction(lifecycle_or(p, n, ShutdownReaction::empty().0))
 }
 
 pub fn shutdown_action_at(p: &[u8], n: usize) -> ShutdownAction
     ensures { λ r. ⌜ r .0 .0 ≡ indexAt (now (p .entry)) n ⌝ }
 {
-    ShutdownAction(ActionIndex(index_at(p, n)))
+    ShutdownAction(ActionIndex(index_or(p, n, ShutdownAction::empty().0.0)))
 }

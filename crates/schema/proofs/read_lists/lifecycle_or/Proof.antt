@@ -1,4 +1,4 @@
--- `schema::read_lists::lifecycle_at` meets its contract. Assumes nothing.
+-- `schema::read_lists::lifecycle_or` meets its contract. Assumes nothing.
 use Rattle.schema.proofs.Past.{row-past}
 use Rattle.schema.specs.Layout as layout
 use denote.Ref.{now}
@@ -8,25 +8,24 @@ use mathlib.Core.Path.{_∙_}
 use Prim.Native.Nat.{_*_, _≤_}
 use Rattle.schema.specs.Rows.{lifecycleOf, lifecycleAt}
 use borrow.Author.Needs.{needs}
-use Rattle.schema.proofs.read_lists.lifecycle_at.Statement.{statement}
-use Rattle.schema.proofs.read_lists.lifecycle_at.Tie as tie
+use Rattle.schema.proofs.read_lists.lifecycle_or.Statement.{statement}
+use Rattle.schema.proofs.read_lists.lifecycle_or.Tie as tie
 
 returns : tie.Need-returns
 unfolding lifecycleAt
 returns c =
-    let a = c .before .before .before .args in
+    let a = c .before .before .args in
     let h : length (now (a .p)) ≤ a .n * 64 = omega arith in
-    c .empty .ensures ∙ row-past lifecycleOf layout.lifecycles (now (a .p)) (a .n) h
+    c .before .before .pre ∙ row-past lifecycleOf layout.lifecycles (now (a .p)) (a .n) h
 
 returns-2 : tie.Need-returns-2
 unfolding lifecycleAt
 returns-2 c = simp (c .word-of3 .ensures, c .before .word-of2 .ensures, c .before .before .word-of .ensures)
 
-pub lifecycle-at-spec : {M : Type 1} → statement M
-lifecycle-at-spec =
+pub lifecycle-or-spec : {M : Type 1} → statement M
+lifecycle-or-spec =
     tie.close
     (tie.spec
-    (λ c κs. search needs)
     returns
     (λ c κs. search needs)
     (λ c κs. search needs)
