@@ -1,3 +1,4 @@
 -- What the proofs share.
 pub mod EndsLaws
 pub mod LinksLaws
+pub mod DepthLaws

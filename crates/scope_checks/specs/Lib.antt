@@ -1,3 +1,4 @@
 pub mod Ends
 pub mod Scopes
 pub mod Links
+pub mod Depths

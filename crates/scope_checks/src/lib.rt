@@ -1,4 +1,5 @@
 // The checks of the rows of scopes with their six running ends, and the walk of their parents.
+pub mod depths;
 pub mod ends;
 pub mod links;
 pub mod owners;

@@ -3,7 +3,9 @@ ghost use mathlib.Core.Path.{_≡_};
 ghost use mathlib.Core.List.{[]};
 ghost use Rattle.answers.specs.Checks.{first, run};
 ghost use Rattle.checks.specs.Image.{image, rowsOf};
+ghost use Rattle.scope_checks.specs.Depths.{allParents};
 ghost use Rattle.scope_checks.specs.Links.{linksOf, parents, links, cycleChecks, parentsAnswer};
+use crate::depths;
 use answers::Refusal;
 use checks::refs;
 use schema::TableStarts;
@@ -11,13 +13,16 @@ use schema::index::MaybeScope;
 use schema::parts;
 use schema::rows::ScopeImage;
 
+// Fewer scopes than this are walked plainly: the walks are short, and there is no array to clear.
+const FEW: u32 = 64;
+
 // The links of all scopes, or the first cycle.
 pub enum Parents {
     Links(u64),
     Refused(Refusal),
 }
 
-fn parent_of(p: &[u8], s: &TableStarts, i: u32) -> MaybeScope
+pub fn parent_of(p: &[u8], s: &TableStarts, i: u32) -> MaybeScope
     ensures { λ r. ⌜ r ≡ parents (image (now (p .entry)) [] [] (now (s .entry)) 0) i ⌝ }
 {
     parts::scope_parent_at(p, refs::row_number(s, ScopeImage::TABLE, i))
@@ -41,9 +46,9 @@ pub fn links_of(p: &[u8], s: &TableStarts, i: u32) -> u32
     followed
 }
 
-// The parents of every scope.
-pub fn check_parents(p: &[u8], s: &TableStarts) -> Parents
-    ensures { λ r. ⌜ r ≡ parentsAnswer (first (run (cycleChecks (image (now (p .entry)) [] [] (now (s .entry)) 0)) 0 (rowsOf (now (s .entry)) 7))) (links (image (now (p .entry)) [] [] (now (s .entry)) 0)) ⌝ }
+// The parents of every scope, each followed to the end.
+fn check_parents_plain(p: &[u8], s: &TableStarts) -> Parents
+    ensures { λ r. ⌜ r ≡ allParents (image (now (p .entry)) [] [] (now (s .entry)) 0) ⌝ }
 {
     let n = refs::rows_of(s, ScopeImage::TABLE);
     let mut links: u64 = 0;
@@ -57,4 +62,15 @@ pub fn check_parents(p: &[u8], s: &TableStarts) -> Parents
         i += 1;
     }
     Parents::Links(links)
+}
+
+// The parents of every scope.
+pub fn check_parents(p: &[u8], s: &TableStarts) -> Parents
+    ensures { λ r. ⌜ r ≡ parentsAnswer (first (run (cycleChecks (image (now (p .entry)) [] [] (now (s .entry)) 0)) 0 (rowsOf (now (s .entry)) 7))) (links (image (now (p .entry)) [] [] (now (s .entry)) 0)) ⌝ }
+{
+    let n = refs::rows_of(s, ScopeImage::TABLE);
+    if n < FEW {
+        return check_parents_plain(p, s);
+    }
+    depths::check_parents_once(p, s)
 }
