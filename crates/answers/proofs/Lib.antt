@@ -2,3 +2,4 @@ pub mod Laws
 pub mod Loops
 pub mod Looser
 pub mod Slots
+pub mod RefusalNumbers

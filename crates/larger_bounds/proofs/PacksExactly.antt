@@ -6,11 +6,10 @@ use native.Mathlib.Omega.{arith}
 use lib.ListN.{getD}
 use Rattle.answers.specs.declared.Outcome.{Outcome}
 use Rattle.answers.specs.declared.Outcome.the-variants.{Passed, Refused}
-use Rattle.answers.specs.declared.Refusal.{Refusal}
-use Rattle.answers.specs.declared.Refusal.the-variants.{Length, TextTooLong, TableOutOfPlace, StrayByte, IdentityOutside, NotUtf8, TableTooLarge, ReferenceOutOfBounds, RangeOutOfBounds, RangesNotMonotonic, EntriesNotSorted, DuplicateEntry, OwnershipMismatch, ScopeParentCycle, InvalidStableId, StableIdsNotSorted, DuplicateStableId, InvalidBankInfo, StorageBoundExceeded, BindingKindMismatch, BindingPresenceMismatch, DuplicateRouteHalf, RoutePairMismatch}
 use Rattle.answers.specs.Numbers.{numbers}
 use Rattle.answers.specs.Checks.{first}
 use Rattle.answers.specs.Slots.{withoutSlots}
+use Rattle.answers.proofs.RefusalNumbers.{number-positive}
 use Rattle.packing.specs.Starts.{tableStarts}
 use Rattle.checks.specs.Image.{Image, startOf}
 use Rattle.scope_checks.specs.Links.{links}
@@ -20,33 +19,6 @@ use Rattle.larger_bounds.specs.Images.{SlotsBelow}
 use Rattle.larger_bounds.specs.Packs.{Packed, answerWithoutSlots, SlotsUsedBelow, EnclaveAcceptedExactly}
 use Rattle.larger_bounds.proofs.Exactly.{accepted-exactly}
 use Rattle.larger_bounds.proofs.TableRows.{row-is, record-is}
-
--- no refusal has the number 0
-number-positive : (r : Refusal) → 1 ≤ getD (numbers r) 0 0
-unfolding numbers
-number-positive Length = omega arith
-number-positive (TextTooLong text) = omega arith
-number-positive (TableOutOfPlace number) = omega arith
-number-positive (StrayByte number) = omega arith
-number-positive (IdentityOutside number) = omega arith
-number-positive (NotUtf8 number) = omega arith
-number-positive (TableTooLarge table) = omega arith
-number-positive (ReferenceOutOfBounds table index field target referenced) = omega arith
-number-positive (RangeOutOfBounds table index field target start len) = omega arith
-number-positive (RangesNotMonotonic table index field start end) = omega arith
-number-positive (EntriesNotSorted table index) = omega arith
-number-positive (DuplicateEntry table index) = omega arith
-number-positive (OwnershipMismatch table index field) = omega arith
-number-positive (ScopeParentCycle scope) = omega arith
-number-positive (InvalidStableId kind index id) = omega arith
-number-positive (StableIdsNotSorted kind index id) = omega arith
-number-positive (DuplicateStableId kind index id) = omega arith
-number-positive (InvalidBankInfo reactor index total) = omega arith
-number-positive (StorageBoundExceeded table index slot bound) = omega arith
-number-positive (BindingKindMismatch table index field) = omega arith
-number-positive (BindingPresenceMismatch table index field) = omega arith
-number-positive (DuplicateRouteHalf boundary direction) = omega arith
-number-positive (RoutePairMismatch boundary field) = omega arith
 
 -- an answer that is acceptance is no refusal's
 accepted-passed : (o : Outcome) (ns : List ℕ) (n : ℕ) → unless o ns ≡ 0 ∷ n ∷ [] → (o ≡ Passed) × (ns ≡ 0 ∷ n ∷ [])

@@ -24,11 +24,11 @@ before-end p (suc k) a n l u e =
     cases (isOf p 1 a)
     (λ b. let v = rw b at u in absurd (omega arith))
     (λ b.
-      let v = rw b at u in
-      elim (decLe n a) [
-        | yes g ↦ (let x : a ≡ n = omega arith in absurd (true≢false (sym e ∙ rw x at b)))
-        | no g ↦ before-end p k (suc a) n (omega arith) v e
-      ])
+    let v = rw b at u in
+    elim (decLe n a) [
+      | yes g ↦ (let x : a ≡ n = omega arith in absurd (true≢false (sym e ∙ rw x at b)))
+      | no g ↦ before-end p k (suc a) n (omega arith) v e
+    ])
 
 after-own : (p : List ℕ) (k a : ℕ) → a ≤ enclaveFrom p a k
 unfolding enclaveFrom

@@ -66,9 +66,9 @@ module _ (p q : List ℕ) (d : DifferInStorage p q) where
           elim (decLe (many p n) (m * 64 + j)) [
             | yes g ↦ byte-outside q n m j (rw (many-same n) g) ∙ sym (byte-outside p n m j g)
             | no g ↦
-              byte-inside q n m j (rw (many-same n) (omega arith))
-              ∙ d .1 (n + m) j l (λ s. o (byte-inside p n m 0 (omega arith) ∙ s .0, s .1, s .2))
-              ∙ sym (byte-inside p n m j (omega arith))
+                byte-inside q n m j (rw (many-same n) (omega arith))
+                ∙ d .1 (n + m) j l (λ s. o (byte-inside p n m 0 (omega arith) ∙ s .0, s .1, s .2))
+                ∙ sym (byte-inside p n m j (omega arith))
           ]
 
   -- a record that is no enclave's

@@ -32,6 +32,12 @@ impl SliceRange {
         self.span().checked_end()
     }
 
+    pub fn saturating_end(self) -> u64
+        ensures { λ r. ⌜ r ≡ saturatingEnd (self .start) (self .len) ⌝ }
+    {
+        self.span().saturating_end()
+    }
+
     // The same start and length, as a span has them.
     pub fn span(self) -> IndexSpan
         ensures { λ r. ⌜ (r .start ≡ self .start) × (r .len ≡ self .len) ⌝ }

@@ -35,12 +35,6 @@ pub struct ReactionEnds {
     pub enabled: u64,
 }
 
-fn range_end(r: SliceRange) -> u64
-    ensures { λ e. ⌜ e ≡ rangeEnd r ⌝ }
-{
-    r.span().saturating_end()
-}
-
 // Where the ranges of the row before end; 0 before the first row.
 fn ends_before(p: &[u8], s: &TableStarts, i: u32) -> ReactionEnds
     ensures { λ r. ⌜ r ≡ reactionEndsBefore (reactionsAt (now (p .entry)) (now (s .entry))) i ⌝ }
@@ -59,10 +53,10 @@ fn ends_before(p: &[u8], s: &TableStarts, i: u32) -> ReactionEnds
     let actions = row.actions;
     let enabled = row.enabled_modes;
     ReactionEnds {
-        uses: range_end(uses),
-        effects: range_end(effects),
-        actions: range_end(actions),
-        enabled: range_end(enabled),
+        uses: uses.saturating_end(),
+        effects: effects.saturating_end(),
+        actions: actions.saturating_end(),
+        enabled: enabled.saturating_end(),
     }
 }
 

@@ -51,23 +51,17 @@ pub fn no_ends() -> ScopeEnds
     }
 }
 
-fn range_end(range: SliceRange) -> u64
-    ensures { λ r. ⌜ r ≡ rangeEnd range ⌝ }
-{
-    range.span().saturating_end()
-}
-
 // Where the ranges of a row end.
 fn ends_of(row: ScopeImage) -> ScopeEnds
     ensures { λ r. ⌜ r ≡ endsOf row ⌝ }
 {
     ScopeEnds {
-        descendants: range_end(row.descendants),
-        logical_actions: range_end(row.logical_actions),
-        timer_startups: range_end(row.timer_startups),
-        reset_reactions: range_end(row.reset_reactions),
-        startup_reactions: range_end(row.startup_reactions),
-        shutdown_reactions: range_end(row.shutdown_reactions),
+        descendants: row.descendants.saturating_end(),
+        logical_actions: row.logical_actions.saturating_end(),
+        timer_startups: row.timer_startups.saturating_end(),
+        reset_reactions: row.reset_reactions.saturating_end(),
+        startup_reactions: row.startup_reactions.saturating_end(),
+        shutdown_reactions: row.shutdown_reactions.saturating_end(),
     }
 }
 

@@ -11,7 +11,7 @@ returns c = simp (eq-eqb _ _ (c .if1 .taken))
 
 returns-2 : tie.Need-returns-2
 unfolding reactionEndsBefore
-returns-2 c = simp (ne-eqb _ _ (c .before .before .before .before .before .before .before .before .before .before .if1 .left), c .range-end4 .ensures, c .before .range-end3 .ensures, c .before .before .range-end2 .ensures, c .before .before .before .range-end .ensures, c .before .before .before .before .before .before .before .before .reaction-at .ensures, c .before .before .before .before .before .before .before .before .before .row-number .ensures)
+returns-2 c = simp (ne-eqb _ _ (c .before .before .before .before .before .before .before .before .before .before .if1 .left), c .saturating-end4 .ensures, c .before .saturating-end3 .ensures, c .before .before .saturating-end2 .ensures, c .before .before .before .saturating-end .ensures, c .before .before .before .before .before .before .before .before .reaction-at .ensures, c .before .before .before .before .before .before .before .before .before .row-number .ensures)
 
 pub ends-before-spec : {M : Type 1} → statement M
 ends-before-spec =

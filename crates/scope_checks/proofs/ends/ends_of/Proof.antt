@@ -13,4 +13,4 @@ ends-of-spec =
     (λ c κs. search needs)
     (λ c κs. search needs)
     (λ c κs. search needs)
-    (λ c. simp (c .before .before .before .before .before .range-end .ensures, c .before .before .before .before .range-end2 .ensures, c .before .before .before .range-end3 .ensures, c .before .before .range-end4 .ensures, c .before .range-end5 .ensures, c .range-end6 .ensures)))
+    (λ c. simp (c .before .before .before .before .before .saturating-end .ensures, c .before .before .before .before .saturating-end2 .ensures, c .before .before .before .saturating-end3 .ensures, c .before .before .saturating-end4 .ensures, c .before .saturating-end5 .ensures, c .saturating-end6 .ensures)))
