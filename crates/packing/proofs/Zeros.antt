@@ -39,7 +39,7 @@ last-byte zero (suc b) = ne-eqb (suc b) 0 (λ e. omega arith) ∙ sym (ne-eqb (0
 last-byte (suc x) b = rw (ne-eqb (suc x) 0 (λ e. omega arith)) (sym (ne-eqb (suc x * 256 + b) 0 (λ e. omega arith)))
 
 -- bytes are zero where their number is 0
-zeros-number : (p : List ℕ) (o k : ℕ) → zeros p o k ≡ eqb (number k p o) 0
+pub zeros-number : (p : List ℕ) (o k : ℕ) → zeros p o k ≡ eqb (number k p o) 0
 unfolding zeros number
 zeros-number p o zero = refl
 zeros-number p o (suc k) = rw (zeros-number p o k) (last-byte (number k p o) (getD p (o + k) 0))

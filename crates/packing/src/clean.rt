@@ -1,13 +1,15 @@
 // A record without stray bytes, bits or kinds, whose absent fields are zero (refusal 4).
 ghost use mathlib.Core.Path.{_≡_};
 ghost use mathlib.Core.Bool.{true, not, _&&_, _||_, cond};
-ghost use Prim.Native.Nat.{_+_, _*_, _-_, _<_, _^_};
+ghost use Prim.Native.Nat.{_+_, _*_, _-_, _<_, _≤_, _^_};
+ghost use lib.ListN.{length};
 ghost use lib.Dec.{ltb, leb, eqb};
 ghost use Rattle.packing.specs.Clean.{zeros, clean};
 use crate::shape::Governed;
 use crate::shape::Shape;
 use schema::number::byte;
-use schema::number::long;
+use schema::number::long_inside;
+use schema::number::word_inside;
 use schema::read::bit;
 
 fn wide(x: u8) -> usize
@@ -30,14 +32,14 @@ fn zero_bytes(p: &[u8], at: usize, k: usize) -> bool
     true
 }
 
-// Whether the 8 k bytes from `at` are zero, eight at a time.
+// Whether the 8 k bytes from `at`, which lie inside, are zero, eight at a time.
 fn zero_longs(p: &[u8], at: usize, k: usize) -> bool
-    requires { ⌜ at + 8 * k < 2 ^ 64 ⌝ }
+    requires { ⌜ at + 8 * k ≤ length (now p) ⌝ }
     ensures { λ r. ⌜ r ≡ zeros (now (p .entry)) at (8 * k) ⌝ }
 {
     let mut i = 0;
     while i < k {
-        if long(p, at + 8 * i) != 0 {
+        if long_inside(p, at + 8 * i) != 0 {
             return false;
         }
         i += 1;
@@ -45,13 +47,36 @@ fn zero_longs(p: &[u8], at: usize, k: usize) -> bool
     true
 }
 
-// Whether the k bytes from `at` are zero.
-fn zeros(p: &[u8], at: usize, k: usize) -> bool
-    requires { ⌜ at + k < 2 ^ 64 ⌝ }
+// The same where the k bytes are fewer than eight; most often they are a W.
+fn zero_rest(p: &[u8], at: usize, k: usize) -> bool
+    requires { ⌜ at + k ≤ length (now p) ⌝ }
+    ensures { λ r. ⌜ r ≡ zeros (now (p .entry)) at k ⌝ }
+{
+    if k == 4 {
+        return word_inside(p, at) == 0;
+    }
+    zero_bytes(p, at, k)
+}
+
+// Whether the k bytes from `at`, which lie inside, are zero.
+fn zeros_inside(p: &[u8], at: usize, k: usize) -> bool
+    requires { ⌜ at + k ≤ length (now p) ⌝ }
     ensures { λ r. ⌜ r ≡ zeros (now (p .entry)) at k ⌝ }
 {
     let longs = k / 8;
-    zero_longs(p, at, longs) & zero_bytes(p, at + 8 * longs, k % 8)
+    zero_longs(p, at, longs) & zero_rest(p, at + 8 * longs, k % 8)
+}
+
+// Whether the k bytes from `at` are zero; a byte past the end is.
+fn zeros(p: &[u8], at: usize, k: usize) -> bool
+    ensures { λ r. ⌜ r ≡ zeros (now (p .entry)) at k ⌝ }
+{
+    if at < p.len() {
+        if k <= p.len() - at {
+            return zeros_inside(p, at, k);
+        }
+    }
+    zero_bytes(p, at, k)
 }
 
 // Bytes 1 to 3.

@@ -49,14 +49,14 @@ fn pair(high: u32, low: u32) -> u64
 }
 
 // A W and a D that lie inside.
-fn word_inside(p: &[u8], at: usize) -> u32
+pub fn word_inside(p: &[u8], at: usize) -> u32
     requires { ⌜ at + 4 ≤ length (now p) ⌝ }
     ensures { λ r. ⌜ r ≡ number 4 (now (p .entry)) at ⌝ }
 {
     four(p[at], p[at + 1], p[at + 2], p[at + 3])
 }
 
-fn long_inside(p: &[u8], at: usize) -> u64
+pub fn long_inside(p: &[u8], at: usize) -> u64
     requires { ⌜ at + 8 ≤ length (now p) ⌝ }
     ensures { λ r. ⌜ r ≡ number 8 (now (p .entry)) at ⌝ }
 {
