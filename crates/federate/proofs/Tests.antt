@@ -2,12 +2,17 @@
 use Prim.Native.Nat.{ℕ, _<_, _≤_}
 use mathlib.Core.Bool.{Bool, true, false, not, _&&_, cond}
 use mathlib.Core.Path.{_≡_, refl, _∙_, sym}
+use native.Mathlib.Omega.{arith}
 use lib.Dec.{leb, eqb}
 use borrow.Author.Tests.{not-true, not-false, lt-leb, le-leb, eq-eqb, ne-eqb}
 
 pub cases {ℓ} : {X : Type ℓ} (b : Bool) → (b ≡ true → X) → (b ≡ false → X) → X
 cases true t f = t refl
 cases false t f = f refl
+
+pub no-both : (x : Bool) → x ≡ true → x ≡ false → ⊥
+no-both true h g = let z : _≡_ {A = ℕ} 0 1 = cc in omega arith
+no-both false h g = let z : _≡_ {A = ℕ} 0 1 = cc in omega arith
 
 -- r is the first test: `if !r` is taken, or left
 pub first-fails : {r a : Bool} (b : Bool) → r ≡ a → not r ≡ true → false ≡ (a && b)

@@ -1,13 +1,13 @@
 // The check of a federate: packing, its own record, each enclave, then the routes.
 ghost use mathlib.Core.Path.{_≡_};
 ghost use Rattle.federate.specs.Answer.{refusedBy, federateNumbers, federateAnswer};
-use answers::Outcome;
 use crate::FederateAnswer;
 use crate::enclaves::validate_federate_enclaves;
 use crate::metadata::check_enclave_count;
 use crate::metadata::validate_federate_metadata;
 use crate::records::count_enclaves;
 use crate::route_pairs::validate_federate_route_pairs;
+use answers::Outcome;
 use enclave::EnclaveAnswer;
 use packing::PackKind;
 use packing::rules::check_packing;

@@ -3,7 +3,9 @@ pub mod check;
 pub mod enclaves;
 pub mod metadata;
 pub mod records;
+pub mod route_faults;
 pub mod route_pairs;
+pub mod route_sort;
 
 use answers::Refusal;
 

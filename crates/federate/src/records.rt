@@ -2,7 +2,7 @@
 ghost use mathlib.Core.Path.{_≡_};
 ghost use Prim.Native.Nat.{_<_};
 ghost use Rattle.packing.specs.Starts.{recordsOf};
-ghost use Rattle.federate.specs.Records.{isOf, enclavesOf, enclaveEnd, enclavePack};
+ghost use Rattle.federate.specs.Records.{isOf, countBelow, enclavesOf, enclaveEnd, enclavePack};
 use schema::parts;
 use schema::rows::EnclaveImage;
 
@@ -26,21 +26,28 @@ pub fn is_of(pack: &[u8], table: u8, n: u32) -> bool
     parts::byte_at(pack, n as usize, 0) == table
 }
 
-// How many enclaves the pack has.
-pub fn count_enclaves(pack: &[u8]) -> u32
-    ensures { λ r. ⌜ r ≡ enclavesOf (now (pack .entry)) ⌝ }
+// How many records of a table the pack has.
+pub fn count_of(pack: &[u8], table: u8) -> u32
+    ensures { λ r. ⌜ r ≡ countBelow (isOf (now (pack .entry)) table) (recordsOf (now (pack .entry))) ⌝ }
 {
     let records = records_of(pack);
     let mut found = 0;
     let mut n = 0;
     while n < records {
         let next = n + 1;
-        if is_of(pack, EnclaveImage::TABLE, n) {
+        if is_of(pack, table, n) {
             found += 1;
         }
         n = next;
     }
     found
+}
+
+// How many enclaves the pack has.
+pub fn count_enclaves(pack: &[u8]) -> u32
+    ensures { λ r. ⌜ r ≡ enclavesOf (now (pack .entry)) ⌝ }
+{
+    count_of(pack, EnclaveImage::TABLE)
 }
 
 // Where the enclave of record n ends.

@@ -4,15 +4,19 @@ ghost use Rattle.identity.specs.Text.{identityText};
 ghost use Rattle.answers.specs.Checks.{run, Decides};
 ghost use Rattle.packing.specs.Starts.{recordsOf};
 ghost use Rattle.federate.specs.RoutePairs.{domainNumber, isHalf, halfAt, halves, pairChecks, routeRecordChecks};
+use crate::records;
+use crate::route_faults;
 use answers::Outcome;
 use answers::Refusal;
 use answers::field;
-use crate::records;
 use identity::ByteOrder;
 use list_checks::routes;
 use schema::index::TimingDomain;
 use schema::read;
 use schema::rows::RouteImage;
+
+// Fewer routes than this are each compared with all, without a sort.
+const FEW_ROUTES: u32 = 8;
 
 // What is counted among the routes of one boundary.
 pub enum Half {
@@ -32,7 +36,7 @@ fn domain_number(domain: TimingDomain) -> u8
 }
 
 // Whether a route of the same boundary counts.
-fn is_half(half: Half, route: RouteImage, candidate: RouteImage) -> bool
+pub fn is_half(half: Half, route: RouteImage, candidate: RouteImage) -> bool
     ensures { λ r. ⌜ r ≡ isHalf half route candidate ⌝ }
 {
     let direction = candidate.direction;
@@ -93,12 +97,7 @@ fn count_halves<'a>(
 }
 
 // One half in, one half out, of one domain and one delay.
-fn check_pair<'a>(
-    pack: &'a [u8],
-    batch: &'a [u8],
-    house: &'a [u8],
-    route: RouteImage,
-) -> Outcome
+fn check_pair<'a>(pack: &'a [u8], batch: &'a [u8], house: &'a [u8], route: RouteImage) -> Outcome
     ensures { λ r. ⌜ Decides (pairChecks (identityText (now (batch .entry)) (now (house .entry))) (now (pack .entry)) route) r ⌝ }
 {
     let boundary = route.boundary;
@@ -140,11 +139,7 @@ fn check_record<'a>(pack: &'a [u8], batch: &'a [u8], house: &'a [u8], n: u32) ->
 }
 
 // Every route of the pack, in the order of the records.
-pub fn validate_federate_route_pairs<'a>(
-    pack: &'a [u8],
-    batch: &'a [u8],
-    house: &'a [u8],
-) -> Outcome
+fn check_each<'a>(pack: &'a [u8], batch: &'a [u8], house: &'a [u8]) -> Outcome
     ensures { λ r. ⌜ Decides (run (routeRecordChecks (identityText (now (batch .entry)) (now (house .entry))) (now (pack .entry))) 0 (recordsOf (now (pack .entry)))) r ⌝ }
 {
     let records = records::records_of(pack);
@@ -155,6 +150,25 @@ pub fn validate_federate_route_pairs<'a>(
             return a;
         };
         n += 1;
+    }
+    Outcome::Passed
+}
+
+// The same answer for any number of routes: of many, only the first at fault is compared with all.
+pub fn validate_federate_route_pairs<'a>(
+    pack: &'a [u8],
+    batch: &'a [u8],
+    house: &'a [u8],
+) -> Outcome
+    ensures { λ r. ⌜ Decides (run (routeRecordChecks (identityText (now (batch .entry)) (now (house .entry))) (now (pack .entry))) 0 (recordsOf (now (pack .entry)))) r ⌝ }
+{
+    let found = records::count_of(pack, RouteImage::TABLE);
+    if found < FEW_ROUTES {
+        return check_each(pack, batch, house);
+    }
+    let n = route_faults::first_fault(pack, batch, house, found);
+    if n < records::records_of(pack) {
+        return check_record(pack, batch, house, n);
     }
     Outcome::Passed
 }

@@ -1,32 +1,18 @@
 -- `federate::route_pairs::validate_federate_route_pairs` meets its contract. Assumes nothing.
-use Prim.Native.Nat.{_-_}
 use borrow.Author.Needs.{needs}
-use native.Mathlib.Omega.{arith}
-use Rattle.answers.proofs.Loops.{Remaining, remaining-start, remaining-step, remaining-stop, remaining-none}
+use Rattle.federate.proofs.FaultLaws.{fault-decides, no-fault}
 use Rattle.federate.proofs.route_pairs.validate_federate_route_pairs.Statement.{statement}
 use Rattle.federate.proofs.route_pairs.validate_federate_route_pairs.Tie as tie
-use Rattle.federate.specs.RoutePairs.{routeRecordChecks}
-use Rattle.identity.specs.Text.{identityText}
-
-abbrev Inv-loop : tie.InvT-loop
-Inv-loop pack batch house records n₀ n = Remaining (routeRecordChecks (identityText batch house) pack) n records
-
-abbrev μ-loop : tie.MeasureT-loop
-μ-loop pack batch house records n₀ n = records - n
 
 pub validate-federate-route-pairs-spec : {M : Type 1} → statement M
 validate-federate-route-pairs-spec =
     tie.close
     (tie.spec
-    Inv-loop
-    μ-loop
     (λ c κs. search needs)
-    (λ c. remaining-start _ _)
     (λ c κs. search needs)
-    (λ c. search needs)
-    (λ c. search needs)
-    (λ c. rw (← c .before .before .before .before .before .records-of .ensures) (remaining-stop (c .before .before .before .before .loop .inv) (c .before .before .before .loop-test .taken) (c .before .before .check-record .ensures) (c .enum-told2 .given .1)))
-    (λ c. search needs)
-    (λ c. omega arith)
-    (λ c. remaining-step (c .before .before .before .before .loop .inv) (c .before .before .before .loop-test .taken) (c .before .before .check-record .ensures) (c .enum-told .given .1))
-    (λ c. rw (← c .before .before .records-of .ensures) (remaining-none (c .before .loop .inv) (c .loop-test .left))))
+    (λ c. c .check-each .ensures)
+    (λ c κs. c .before .count-of .ensures)
+    (λ c κs. search needs)
+    (λ c κs. search needs)
+    (λ c. fault-decides (c .before .before .before .first-fault .ensures) _ (rw (← c .before .before .records-of .ensures) (c .before .if2 .taken)) (c .check-record .ensures))
+    (λ c. no-fault (c .before .before .first-fault .ensures) (rw (← c .before .records-of .ensures) (c .if2 .left))))

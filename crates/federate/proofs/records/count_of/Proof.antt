@@ -1,21 +1,21 @@
--- `federate::records::count_enclaves` meets its contract. Assumes nothing.
+-- `federate::records::count_of` meets its contract. Assumes nothing.
 use Prim.Native.Nat.{_-_, _≤_}
 use borrow.Author.Needs.{needs}
 use mathlib.Core.Path.{_∙_, sym}
 use native.Mathlib.Omega.{arith}
 use Rattle.federate.proofs.Counts.{Counted, counted-start, counted-one, counted-none, counted-all}
-use Rattle.federate.proofs.records.count_enclaves.Statement.{statement}
-use Rattle.federate.proofs.records.count_enclaves.Tie as tie
+use Rattle.federate.proofs.records.count_of.Statement.{statement}
+use Rattle.federate.proofs.records.count_of.Tie as tie
 use Rattle.federate.specs.Records.{isOf}
 
 abbrev Inv-loop : tie.InvT-loop
-Inv-loop pack records found₀ n₀ found n = (n ≤ records) × Counted (isOf pack 1) n found
+Inv-loop pack table records found₀ n₀ found n = (n ≤ records) × Counted (isOf pack table) n found
 
 abbrev μ-loop : tie.MeasureT-loop
-μ-loop pack records found₀ n₀ found n = records - n
+μ-loop pack table records found₀ n₀ found n = records - n
 
-pub count-enclaves-spec : {M : Type 1} → statement M
-count-enclaves-spec =
+pub count-of-spec : {M : Type 1} → statement M
+count-of-spec =
     tie.close
     (tie.spec
     Inv-loop

@@ -1,0 +1,44 @@
+-- `federate::route_faults::fault_by` meets its contract. The measure is the room that is short of the most. Assumes nothing.
+use Prim.Native.Nat.{ℕ, _-_, _<_, _≤_}
+use borrow.Author.Needs.{needs}
+use borrow.Fn.Kinds.{In}
+use borrow.Fn.PlainCycle.{Measures, is, falls, and}
+use denote.Ref.{now}
+use lib.ListN.{length, replicate, length-replicate}
+use mathlib.Core.Path.{_≡_}
+use native.Mathlib.Omega.{arith}
+use Rattle.federate.proofs.route_faults.+fault_by.Lts-fault_by as lts
+use Rattle.federate.proofs.route_faults.+fault_by.Tie.{close}
+use Rattle.federate.proofs.route_faults.+fault_by.{statement}
+use Rattle.federate.proofs.route_faults.fault_by.Kinds as kinds
+use Rattle.federate.proofs.route_faults.fault_by.Reads as reads
+use Rattle.federate.proofs.route_faults.fault_within.Reads as fault-within-reads
+
+abbrev μ : Measures 3 kinds.ps ℕ
+μ κs a = 65536 - length (now (a .1 .1 .1 .0))
+
+abbrev at-measure : ℕ → In 3 kinds.ps
+at-measure t = and 3 kinds.ps (is 3 kinds.ps μ t) reads.Pre
+
+abbrev below : ℕ → In 3 kinds.ps
+below t = and 3 kinds.ps (falls 3 kinds.ps _<_ μ t) reads.Pre
+
+-- as much room as there can be leaves less to ask for than d does
+room-less : (n : ℕ) {d k t : ℕ} → n - d ≡ t → d < k → k ≤ n → n - length {A = ℕ} (replicate n 0) < t
+room-less n e h l = rw length-replicate (omega arith)
+
+same-room : (n : ℕ) → length {A = ℕ} (replicate n 0) ≤ length {A = ℕ} (replicate n 0)
+same-room n = omega arith
+
+pub +fault-by-spec : {M : Type 1} → statement M
++fault-by-spec = close μ λ t. lts.spec (below t, reads.Post, fault-within-reads.Asked, fault-within-reads.Learnt)
+    (at-measure t)
+    reads.Post
+    (λ c. search needs)
+    (λ c. search needs)
+    (λ c κs. let start = c .before .before .before .before .before .before .before .before in (room-less 65536 {d = length (now (start .args .rows))} (start .pre .0) (c .before .before .if1 .taken) (start .pre .1 .1), (start .pre .1 .0, start .pre .1 .1, same-room 65536)))
+    (λ c. search needs)
+    (λ c κs. let start = c .before .before .before .before .before .before .before .before in (start .pre .1 .0, c .before .before .if1 .left, start .pre .1 .2))
+    (λ c. search needs)
+    (λ c. search needs)
+    (λ c. search needs)
