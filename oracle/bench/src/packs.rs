@@ -1,0 +1,73 @@
+//! One pack: the answers compared, then the three sides timed.
+use crate::decode::Tables;
+use crate::linked;
+use crate::measure::{alternate, estimate, keep, timed, Effort, Side};
+use crate::rust::{with_decoding, Decoded};
+use crate::sample::Sample;
+use check::Answer;
+use std::hint::black_box;
+
+/// From so many nanoseconds on the oracle is not asked, and decoding is timed apart from the Rust's check.
+const SLOW: f64 = 0.5e9;
+/// The oracle keeps a copy of every identity.
+const MOST_NAMED: u64 = 64 << 20;
+
+/// Nanoseconds in each repetition.
+pub struct Times {
+    /// The Rust with decoding.
+    pub whole: Vec<f64>,
+    /// The Rust's check alone; empty where the tables cannot be read.
+    pub check: Vec<f64>,
+    pub ours: Vec<f64>,
+}
+
+/// The times, or how the answers differ.
+pub fn measure(sample: &Sample, effort: Effort) -> Result<Times, String> {
+    let case = &sample.case;
+    let tables = Tables::of(case);
+    let decoded = tables.as_ref().map(Decoded::of);
+    let (by_rust, check_first) = timed(|| decoded.as_ref().is_some_and(Decoded::check));
+    let (by_us, ours_first) = timed(|| linked::answer(case));
+    let slow = check_first > SLOW;
+    agree(sample, by_rust, by_us, slow)?;
+
+    let whole = || keep(with_decoding(black_box(case)));
+    let decoding = || keep(Tables::of(black_box(case)).map(|tables| tables.images().len()));
+    let check = || keep(decoded.as_ref().map(Decoded::check));
+    let ours = || keep(linked::numbers(black_box(case)));
+    let first: Side = if slow { &decoding } else { &whole };
+    let mut sides = vec![(first, estimate(None, first)), (&ours, estimate(Some(ours_first), &ours))];
+    if decoded.is_some() {
+        sides.push((&check, estimate(Some(check_first), &check)));
+    }
+    let mut times = alternate(&sides, effort).into_iter();
+    let mut next = || times.next().unwrap_or_default();
+    let (mut whole, ours, check) = (next(), next(), next());
+    if slow {
+        whole.iter_mut().zip(&check).for_each(|(whole, check)| *whole += check);
+    }
+    Ok(Times { whole, check, ours })
+}
+
+/// Compares all answers with the one that the pack was made for.
+fn agree(sample: &Sample, by_rust: bool, by_us: Answer, slow: bool) -> Result<(), String> {
+    let expected = &sample.expected;
+    let accepted = matches!(expected, Answer::Accepted { .. });
+    let mut wrong = Vec::new();
+    if by_us != *expected {
+        wrong.push(format!("this check: {by_us}"));
+    }
+    if by_rust != accepted || !slow && with_decoding(&sample.case).unwrap_or(false) != accepted {
+        wrong.push(format!("the Rust: {}", if accepted { "refused" } else { "accepted" }));
+    }
+    if !slow && sample.named <= MOST_NAMED {
+        let oracle = check::answer(&sample.case);
+        if oracle != *expected {
+            wrong.push(format!("the oracle: {oracle}"));
+        }
+    }
+    match wrong.is_empty() {
+        true => Ok(()),
+        false => Err(format!("made for: {expected}; {}", wrong.join("; "))),
+    }
+}
