@@ -186,7 +186,11 @@ pub fn first_fault<'a>(pack: &'a [u8], batch: &'a [u8], house: &'a [u8], routes:
     requires { ⌜ routes ≡ countBelow (isOf (now pack) 23) (recordsOf (now pack)) ⌝ }
     ensures { λ r. ⌜ FirstFault (routeRecordChecks (identityText (now (batch .entry)) (now (house .entry))) (now (pack .entry))) r (recordsOf (now (pack .entry))) ⌝ }
 {
+    let n = routes as usize;
     let mut rows = [0u32; SOME_ROUTES];
     let mut spare = [0u32; SOME_ROUTES];
-    fault_by(pack, batch, house, &mut rows, &mut spare, routes as usize)
+    if n <= SOME_ROUTES {
+        return fault_within(pack, batch, house, &mut rows, &mut spare, n);
+    }
+    fault_by(pack, batch, house, &mut rows, &mut spare, n)
 }
