@@ -108,8 +108,8 @@ fn deepest_line() {
 
 #[test]
 fn many_routes() {
-    let pack = [federate(2), routed(0, 2100), routed(1, 2100)].concat();
-    let answer = on_small_stack(move || check_federate(&pack, &routed_text(2100), b""));
+    let pack = [federate(2), routed(0, 15000), routed(1, 15000)].concat();
+    let answer = on_small_stack(move || check_federate(&pack, &routed_text(15000), b""));
     assert_eq!(answer, Answer::Federate { enclaves: 2, links: 0 });
 }
 
