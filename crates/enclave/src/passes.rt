@@ -4,6 +4,7 @@ ghost use mathlib.Core.List.{[]};
 ghost use Prim.Native.Nat.{_+_, _<_, _≤_};
 ghost use Rattle.answers.specs.Checks.{run, Decides};
 ghost use Rattle.checks.specs.Image.{image, rowsOf};
+ghost use Rattle.enclave.specs.Holds.{isPassed, Holds};
 ghost use Rattle.enclave.specs.Passes.{lengthTable, lengthChecks, rootChecks, enclaveIdChecks, passAt, passChecks};
 use answers::Outcome;
 use answers::field;
@@ -145,6 +146,61 @@ fn check_item<'a>(
     }
 }
 
+fn is_passed(outcome: Outcome) -> bool
+    ensures { λ r. ⌜ r ≡ isPassed outcome ⌝ }
+{
+    match outcome {
+        Outcome::Passed => true,
+        Outcome::Refused(_) => false,
+    }
+}
+
+// Whether item i of pass k passes. The answer is in a register: a refusal goes through memory, which an item that passes need not pay for.
+fn item_holds<'a>(
+    p: &'a [u8],
+    batch: &'a [u8],
+    house: &'a [u8],
+    s: &'a TableStarts,
+    n: usize,
+    k: u32,
+    i: u32,
+) -> bool
+    ensures { λ r. ⌜ Holds (passAt k .checks (image (now (p .entry)) (now (batch .entry)) (now (house .entry)) (now (s .entry)) n) i) r ⌝ }
+{
+    match k {
+        0 => is_passed(check_length(s, i)),
+        1 => is_passed(check_root(s)),
+        2 => is_passed(check_enclave_id(p, batch, house, n)),
+        3 => is_passed(reactors::check_reactor(p, s, n, i)),
+        4 => is_passed(actions::check_action(p, s, n, i)),
+        5 => is_passed(ports::check_port(p, s, i)),
+        6 => is_passed(reactions::check_reaction(p, s, i)),
+        7 => is_passed(modes::check_mode(p, s, i)),
+        8 => is_passed(list_tables::check_action_triggers(p, s, i)),
+        9 => is_passed(list_tables::check_port_triggers(p, s, i)),
+        10 => is_passed(list_tables::check_use_port(p, s, i)),
+        11 => is_passed(list_tables::check_effect_port(p, s, i)),
+        12 => is_passed(list_tables::check_reaction_action(p, s, i)),
+        13 => is_passed(list_tables::check_reaction_mode(p, s, i)),
+        14 => is_passed(list_tables::check_enabled_modes(p, s, i)),
+        15 => is_passed(list_tables::check_descendant(p, s, i)),
+        16 => is_passed(list_tables::check_logical_action(p, s, i)),
+        17 => is_passed(list_tables::check_timer_startup(p, s, i)),
+        18 => is_passed(list_tables::check_scope_lists(p, s, i)),
+        19 => is_passed(list_tables::check_level_entry(p, s, 8, i)),
+        20 => is_passed(list_tables::check_level_entry(p, s, 16, i)),
+        21 => is_passed(list_tables::check_lifecycle_entry(p, s, 17, i)),
+        22 => is_passed(list_tables::check_lifecycle_entry(p, s, 18, i)),
+        23 => is_passed(list_tables::check_startup_action(p, s, i)),
+        24 => is_passed(list_tables::check_timer_startup_action(p, s, i)),
+        25 => is_passed(list_tables::check_shutdown_reaction(p, s, i)),
+        26 => is_passed(list_tables::check_shutdown_action(p, s, i)),
+        27 => is_passed(routes::check_route(p, batch, house, s, i)),
+        28 => is_passed(routes::check_binding_id(p, batch, house, s, i)),
+        _ => true,
+    }
+}
+
 // The items of pass k.
 fn check_pass<'a>(
     p: &'a [u8],
@@ -159,10 +215,9 @@ fn check_pass<'a>(
     let items = items_of(s, k);
     let mut i = 0;
     while i < items {
-        let a = check_item(p, batch, house, s, n, k, i);
-        let Outcome::Passed = a else {
-            return a;
-        };
+        if !item_holds(p, batch, house, s, n, k, i) {
+            return check_item(p, batch, house, s, n, k, i);
+        }
         i += 1;
     }
     Outcome::Passed

@@ -1,14 +1,13 @@
 -- Where the enclave of a record ends. Assumes nothing.
-use Prim.Native.Nat.{ℕ, zero, suc, _+_, _-_, _*_, _/_, _<_, _≤_}
+use Prim.Native.Nat.{ℕ, zero, suc, _+_, _-_, _*_, _<_, _≤_}
 use mathlib.Core.Bool.{Bool, true, false, cond}
-use mathlib.Core.Path.{_≡_, refl, _∙_, ap, sym}
+use mathlib.Core.Path.{_≡_, _∙_, ap, sym}
 use mathlib.Core.List.{List}
 use native.Mathlib.Numerals.{add-one}
 use native.Mathlib.Omega.{arith}
-use lib.Dec.{ltb}
 use lib.ListN.{length, take, drop}
-use borrow.Author.Tests.{ltb-false}
 use Rattle.packing.specs.Starts.{recordsOf}
+use Rattle.packing.proofs.TableStarts.{records-inside}
 use Rattle.federate.specs.Records.{isOf, enclaveFrom, enclaveEnd, enclavePack}
 
 -- no record from n + 1 up to `end` is an enclave's
@@ -54,13 +53,6 @@ end-within p n l =
     let a = h .0 in
     let b = h .1 in
     (omega arith, omega arith)
-
-records-inside : (p : List ℕ) → recordsOf p ≤ length p / 64
-records-inside p = go (ltb (length p / 64) 65536) refl
-  where
-    go : (b : Bool) → ltb (length p / 64) 65536 ≡ b → cond b (length p / 64) 65536 ≤ length p / 64
-    go true e = omega arith
-    go false e = let h = ltb-false (length p / 64) 65536 e in h
 
 -- so its bytes are a part of the pack
 pub part-inside : (p : List ℕ) {n end : ℕ} → n < recordsOf p → end ≡ enclaveEnd p n → (n * 64 ≤ end * 64) × (end * 64 ≤ length p)

@@ -1,8 +1,9 @@
 -- Where a table begins: the record that reaches it first. Assumes nothing.
-use Prim.Native.Nat.{ℕ, zero, suc, _+_, _-_, _/_, _<_, _≤_}
+use Prim.Native.Nat.{ℕ, zero, suc, _+_, _*_, _/_, _<_, _≤_}
 use mathlib.Core.Bool.{Bool, true, false, not, _||_, cond, true≢false}
 use mathlib.Core.Path.{_≡_, refl, _∙_, sym}
 use mathlib.Core.List.{List, [], _∷_}
+use native.Mathlib.Nat.{add-zero}
 use native.Mathlib.Numerals.{add-one}
 use native.Mathlib.Omega.{arith}
 use lib.Dec.{ltb, leb}
@@ -19,29 +20,25 @@ reaching true false d e h = (refl, leb-false d e h)
 reaching false b d e h = absurd (true≢false h)
 
 -- how many records are looked at
-least : (n m k : ℕ) → (cond (ltb n m) n m ≤ n) × ((cond (ltb n m) n m ≤ m) × (k < n → k < m → k < cond (ltb n m) n m))
-least n m k =
+least : (n m : ℕ) → (cond (ltb n m) n m ≤ n) × (cond (ltb n m) n m ≤ m)
+least n m =
     cases (ltb n m)
-    (λ b. let h = ltb-true n m b in rw b (omega arith, (omega arith, λ x y. x)))
-    (λ b. let h = ltb-false n m b in rw b (h, (omega arith, λ x y. y)))
+    (λ b. let h = ltb-true n m b in rw b (omega arith, omega arith))
+    (λ b. let h = ltb-false n m b in rw b (h, omega arith))
 
 module _ (p : List ℕ) where
   pub records-few : recordsOf p ≤ 65536
-  records-few = least (length p / 64) 65536 0 .1 .0
+  records-few = least (length p / 64) 65536 .1
 
-  -- a record past the last reaches every table; any other by its own
-  pub past-reaches : (t k : ℕ) → length p / 64 ≤ k → true ≡ reaches p t k
-  past-reaches t k h =
-      let f = least (length p / 64) 65536 0 in
-      rw (le-ltb k (recordsOf p) (omega arith))
+  pub records-inside : recordsOf p ≤ length p / 64
+  records-inside = least (length p / 64) 65536 .0
 
-  pub limit-reaches : (t k : ℕ) → 65536 ≤ k → true ≡ reaches p t k
-  limit-reaches t k h =
-      let f = least (length p / 64) 65536 0 in
-      rw (le-ltb k (recordsOf p) (omega arith))
+  -- with n the records looked at: one past the last reaches every table, any other by its own
+  pub past-reaches : (t k n : ℕ) → n ≡ recordsOf p → n ≤ k → true ≡ reaches p t k
+  past-reaches t k n e h = rw (le-ltb k (recordsOf p) (rw e at h))
 
-  pub inside-reaches : (t k u : ℕ) → k < length p / 64 → k < 65536 → u ≡ byteOf p k 0 → (ltb u 2 || leb t u) ≡ reaches p t k
-  inside-reaches t k u h l e = rw (lt-ltb k (recordsOf p) (least (length p / 64) 65536 k .1 .1 h l), e)
+  pub inside-reaches : (t k n : ℕ) → n ≡ recordsOf p → k < n → (ltb (getD p (k * 64) 0) 2 || leb t (getD p (k * 64) 0)) ≡ reaches p t k
+  inside-reaches t k n e h = rw (lt-ltb k (recordsOf p) (rw e at h), add-zero)
 
   -- a record that does not reach table t lies inside and is of an earlier one
   pub not-reached : (t k : ℕ) → reaches p t k ≡ false → (k < recordsOf p) × (byteOf p k 0 < t)

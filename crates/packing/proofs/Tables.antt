@@ -5,7 +5,7 @@ use mathlib.Core.Path.{_≡_, refl}
 use mathlib.Core.List.{List, [], _∷_}
 use native.Mathlib.Omega.{arith}
 use lib.Dec.{ltb, leb, eqb}
-use lib.ListN.{getD, length}
+use lib.ListN.{getD, length, List·getD-eq-default}
 use borrow.Author.Tests.{ltb-true, ltb-false, leb-true, eqb-true}
 use Rattle.identity.specs.declared.IdentityPlace.{IdentityPlace}
 use Rattle.schema.specs.Number.{number}
@@ -15,11 +15,18 @@ use Rattle.packing.proofs.Tests.{cases, both}
 use Rattle.packing.specs.Shape.{layoutOf}
 use Rattle.packing.specs.Packing.{packFits, identityAt}
 
--- inside a list any default serves
-pub getD-inside : {A : Type 0} (xs : List A) (i : ℕ) (a b : A) → i < length xs → getD xs i a ≡ getD xs i b
-getD-inside [] i a b h = absurd (omega arith)
-getD-inside (x ∷ xs) zero a b h = refl
-getD-inside (x ∷ xs) (suc i) a b h = getD-inside xs i a b (omega arith)
+-- k is none of the n numbers from 0 on: what the last arm of a match over them knows
+abbrev pub NoneOf : ℕ → ℕ → Type 0
+NoneOf zero k = Unit {0}
+NoneOf (suc n) k = NoneOf n k × (k ≡ n → ⊥)
+
+pub beyond : (n k : ℕ) → NoneOf n k → n ≤ k
+beyond zero k h = omega arith
+beyond (suc n) k (h, e) = let l = beyond n k h in omega arith
+
+pub no-table : (t : ℕ) → NoneOf 25 t → layoutOf t ≡ plain []
+unfolding layouts
+no-table t h = List·getD-eq-default layouts (plain []) (beyond 25 t h)
 
 -- a test holds of every layout of a list, and of every number below k
 every : (Layout → Bool) → List Layout → Bool
@@ -45,10 +52,10 @@ below-at f (suc k) j e h =
     (λ t. below-at f k j (b .0) (ltb-true j k t))
     (λ n. let l = ltb-false j k n in let q : j ≡ k = omega arith in rw q (b .1))
 
--- identity j is two W at byte 4 + 8 j, and has a house bit
+-- identity j is two W at byte 4 + 8 j, inside the record, and has a house bit
 pairAt : Layout → ℕ → Bool
 pairAt l j =
-    ltb j 8
+    ltb j 7
     && (eqb (bytes (fieldAt l (2 * j))) 4
     && (eqb (offset l (2 * j)) (4 + 8 * j)
     && (eqb (bytes (fieldAt l (2 * j + 1))) 4
@@ -62,12 +69,12 @@ unfolding layouts every below pairs pairAt
 pair-at t j h = below-at (pairAt (layoutOf t)) (layoutOf t .identities) j (every-at pairs layouts (plain []) t refl refl) h
 
 module _ (t j : ℕ) (h : j < layoutOf t .identities) where
-  parts : (ltb j 8 ≡ true) × ((eqb (bytes (fieldAt (layoutOf t) (2 * j))) 4 && (eqb (offset (layoutOf t) (2 * j)) (4 + 8 * j) && (eqb (bytes (fieldAt (layoutOf t) (2 * j + 1))) 4 && eqb (offset (layoutOf t) (2 * j + 1)) (8 + 8 * j)))) ≡ true)
+  parts : (ltb j 7 ≡ true) × ((eqb (bytes (fieldAt (layoutOf t) (2 * j))) 4 && (eqb (offset (layoutOf t) (2 * j)) (4 + 8 * j) && (eqb (bytes (fieldAt (layoutOf t) (2 * j + 1))) 4 && eqb (offset (layoutOf t) (2 * j + 1)) (8 + 8 * j)))) ≡ true)
   unfolding pairAt
   parts = both _ _ (pair-at t j h)
 
-  pub house-bit : j < 8
-  house-bit = ltb-true j 8 (parts .0)
+  pub identity-few : j < 7
+  identity-few = ltb-true j 7 (parts .0)
 
   pub identity-pair : ((bytes (fieldAt (layoutOf t) (2 * j)) ≡ 4) × (offset (layoutOf t) (2 * j) ≡ 4 + 8 * j)) × ((bytes (fieldAt (layoutOf t) (2 * j + 1)) ≡ 4) × (offset (layoutOf t) (2 * j + 1) ≡ 8 + 8 * j))
   identity-pair =

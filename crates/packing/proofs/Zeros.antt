@@ -1,37 +1,49 @@
--- Bytes that are zero, one by one and eight at a time. Assumes nothing.
+-- Bytes that are zero, one by one and by parts. Assumes nothing.
 use Prim.Native.Nat.{ℕ, zero, suc, _+_, _*_, _-_, _/_, _%_, _<_, _≤_}
-use mathlib.Core.Bool.{true, false, _&&_, and-true, and-false, and-assoc}
+use mathlib.Core.Bool.{Bool, true, false, _&&_, and-true, and-false, and-assoc}
 use mathlib.Core.Path.{_≡_, refl, _∙_, ap, sym}
 use mathlib.Core.List.{List}
-use native.Mathlib.Nat.{add-zero, add-suc}
+use native.Mathlib.Nat.{add-zero, add-suc, zero-mul, one-mul, div-eq-of-lt, div-eq-sub-div}
 use native.Mathlib.Omega.{arith}
 use lib.Dec.{eqb}
-use lib.ListN.{getD, length}
+use lib.ListN.{getD}
 use borrow.Author.Tests.{eq-eqb, ne-eqb}
 use Rattle.schema.specs.Number.{number}
-use Rattle.schema.proofs.Past.{byte-past}
 use Rattle.packing.specs.Clean.{zeros}
 
 -- zero bytes in two parts
-zeros-add : (p : List ℕ) (o i k : ℕ) → zeros p o (i + k) ≡ (zeros p o i && zeros p (o + i) k)
+pub zeros-add : (p : List ℕ) (o i k : ℕ) → zeros p o (i + k) ≡ (zeros p o i && zeros p (o + i) k)
 unfolding zeros
 zeros-add p o i zero = rw add-zero (sym (and-true (zeros p o i)))
 zeros-add p o i (suc k) =
     let e : o + (i + k) ≡ (o + i) + k = omega arith in
     rw (add-suc, zeros-add p o i k, e) (and-assoc (zeros p o i) (zeros p (o + i) k) _)
 
-pub zeros-parts : (p : List ℕ) (o k : ℕ) → (zeros p o (8 * (k / 8)) && zeros p (o + 8 * (k / 8)) (k % 8)) ≡ zeros p o k
-zeros-parts p o k =
-    let e : 8 * (k / 8) + k % 8 ≡ k = omega arith in
-    sym (zeros-add p o (8 * (k / 8)) (k % 8)) ∙ ap (zeros p o) e
+zeros-cut : (p : List ℕ) (o i k n : ℕ) → i + k ≡ n → zeros p o n ≡ (zeros p o i && zeros p (o + i) k)
+zeros-cut p o i k n e = rw (sym e) (zeros-add p o i k)
 
--- past the end every byte is zero
-pub zeros-past : (p : List ℕ) (o k : ℕ) → length p ≤ o → zeros p o k ≡ true
-unfolding zeros
-zeros-past p o zero h = refl
-zeros-past p o (suc k) h =
-    let l : length p ≤ o + k = omega arith in
-    rw (zeros-past p o k h, byte-past p (o + k) l)
+-- k bytes in parts of 32, 16 and 8, and the rest
+pub zeros-parts : (p : List ℕ) (o k : ℕ) → (zeros p o (k / 32 * 32) && (zeros p (o + k / 32 * 32) (k % 32 / 16 * 16) && (zeros p (o + k / 16 * 16) (k % 16 / 8 * 8) && zeros p (o + k / 8 * 8) (k % 8)))) ≡ zeros p o k
+zeros-parts p o k =
+    let d : k / 32 * 32 + k % 32 / 16 * 16 ≡ k / 16 * 16 = omega arith in
+    let e : k / 16 * 16 + k % 16 / 8 * 8 ≡ k / 8 * 8 = omega arith in
+    let f : k / 8 * 8 + k % 8 ≡ k = omega arith in
+    sym
+    (rw (zeros-cut p o (k / 8 * 8) (k % 8) k f, zeros-cut p o (k / 16 * 16) (k % 16 / 8 * 8) (k / 8 * 8) e, zeros-cut p o (k / 32 * 32) (k % 32 / 16 * 16) (k / 16 * 16) d)
+    (simp and-assoc))
+
+-- the part of m bytes that k bytes have: none, or one
+module _ (p : List ℕ) (o m k : ℕ) where
+  pub part-none : k < m → true ≡ zeros p o (k / m * m)
+  unfolding zeros
+  part-none h = rw (div-eq-of-lt h, zero-mul)
+
+  pub part-one : {r : Bool} → m ≤ k → k < m + m → r ≡ zeros p o m → r ≡ zeros p o (k / m * m)
+  part-one l h e =
+      let d : k / m ≡ (k - m) / m + 1 = div-eq-sub-div (omega arith) l in
+      let z : (k - m) / m ≡ 0 = div-eq-of-lt (omega arith) in
+      let q : k / m ≡ 1 = omega arith in
+      rw (q, one-mul) e
 
 last-byte : (x b : ℕ) → (eqb x 0 && eqb b 0) ≡ eqb (x * 256 + b) 0
 last-byte zero zero = refl
@@ -44,20 +56,13 @@ unfolding zeros number
 zeros-number p o zero = refl
 zeros-number p o (suc k) = rw (zeros-number p o k) (last-byte (number k p o) (getD p (o + k) 0))
 
--- the first i bytes are zero, and the first i numbers of eight bytes
+-- the first i bytes are zero
 pub record ZeroBytes (p : List ℕ) (o i : ℕ) : Type 0 where
   pub so : zeros p o i ≡ true
-
-pub record ZeroLongs (p : List ℕ) (o i : ℕ) : Type 0 where
-  pub so : zeros p o (8 * i) ≡ true
 
 pub no-bytes : (p : List ℕ) (o : ℕ) → ZeroBytes p o 0
 unfolding zeros
 no-bytes p o = record { so = refl }
-
-pub no-longs : (p : List ℕ) (o : ℕ) → ZeroLongs p o 0
-unfolding zeros
-no-longs p o = record { so = refl }
 
 -- k bytes more
 longer : (p : List ℕ) (o i k : ℕ) → zeros p o i ≡ true → zeros p (o + i) k ≡ true → zeros p o (i + k) ≡ true
@@ -84,19 +89,4 @@ bytes-all {p} {o} {i} n c l h =
     let e : i ≡ n = omega arith in
     sym (rw e at (c .so))
 
-pub long-more : {p : List ℕ} {o i : ℕ} (x : ℕ) → ZeroLongs p o i → x ≡ number 8 p (o + 8 * i) → x ≡ 0 → ZeroLongs p o (i + 1)
-long-more {p} {o} {i} x c e z =
-    let m : 8 * i + 8 ≡ 8 * (i + 1) = omega arith in
-    record { so = ap (zeros p o) (sym m) ∙ longer p o (8 * i) 8 (c .so) (zeros-number p (o + 8 * i) 8 ∙ eq-eqb _ 0 (sym e ∙ z)) }
-
-pub long-stray : {p : List ℕ} {o i : ℕ} (n x : ℕ) → ZeroLongs p o i → x ≡ number 8 p (o + 8 * i) → (x ≡ 0 → ⊥) → i < n → false ≡ zeros p o (8 * n)
-long-stray {p} {o} {i} n x c e z h = sym (stray p o (8 * i) 8 (8 * n) (omega arith) (zeros-number p (o + 8 * i) 8 ∙ ne-eqb _ 0 (λ q. z (e ∙ q))))
-
-pub longs-all : {p : List ℕ} {o i : ℕ} (n : ℕ) → ZeroLongs p o i → i ≤ n → n ≤ i → true ≡ zeros p o (8 * n)
-longs-all {p} {o} {i} n c l h =
-    let e : i ≡ n = omega arith in
-    sym (rw e at (c .so))
-
 pub ruleset byte-laws = (byte-more, byte-stray, bytes-all)
-
-pub ruleset long-laws = (long-more, long-stray, longs-all)

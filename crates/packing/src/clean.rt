@@ -1,9 +1,11 @@
 // A record without stray bytes, bits or kinds, whose absent fields are zero (refusal 4).
 ghost use mathlib.Core.Path.{_≡_};
 ghost use mathlib.Core.Bool.{true, not, _&&_, _||_, cond};
-ghost use Prim.Native.Nat.{_+_, _*_, _-_, _<_, _≤_, _^_};
+ghost use Prim.Native.Nat.{_+_, _*_, _-_, _/_, _<_, _≤_, _^_};
 ghost use lib.ListN.{length};
 ghost use lib.Dec.{ltb, leb, eqb};
+ghost use Rattle.schema.specs.Rows.{byteOf};
+ghost use Rattle.packing.specs.Shape.{shapeOf};
 ghost use Rattle.packing.specs.Clean.{zeros, clean};
 use crate::shape::Governed;
 use crate::shape::Shape;
@@ -32,22 +34,60 @@ fn zero_bytes(p: &[u8], at: usize, k: usize) -> bool
     true
 }
 
-// Whether the 8 k bytes from `at`, which lie inside, are zero, eight at a time.
-fn zero_longs(p: &[u8], at: usize, k: usize) -> bool
-    requires { ⌜ at + 8 * k ≤ length (now p) ⌝ }
-    ensures { λ r. ⌜ r ≡ zeros (now (p .entry)) at (8 * k) ⌝ }
+// Whether the 8, 16 or 32 bytes from `at`, which lie inside, are zero.
+fn zeros_8(p: &[u8], at: usize) -> bool
+    requires { ⌜ at + 8 ≤ length (now p) ⌝ }
+    ensures { λ r. ⌜ r ≡ zeros (now (p .entry)) at 8 ⌝ }
 {
-    let mut i = 0;
-    while i < k {
-        if long_inside(p, at + 8 * i) != 0 {
-            return false;
-        }
-        i += 1;
-    }
-    true
+    long_inside(p, at) == 0
 }
 
-// The same where the k bytes are fewer than eight; most often they are a W.
+fn zeros_16(p: &[u8], at: usize) -> bool
+    requires { ⌜ at + 16 ≤ length (now p) ⌝ }
+    ensures { λ r. ⌜ r ≡ zeros (now (p .entry)) at 16 ⌝ }
+{
+    zeros_8(p, at) & zeros_8(p, at + 8)
+}
+
+fn zeros_32(p: &[u8], at: usize) -> bool
+    requires { ⌜ at + 32 ≤ length (now p) ⌝ }
+    ensures { λ r. ⌜ r ≡ zeros (now (p .entry)) at 32 ⌝ }
+{
+    zeros_16(p, at) & zeros_16(p, at + 16)
+}
+
+// The parts of k bytes from `at`: 32 where they are as many, then 16, then 8.
+fn zeros_by_32(p: &[u8], at: usize, k: usize) -> bool
+    requires { ⌜ (k < 64) × (at + k ≤ length (now p)) ⌝ }
+    ensures { λ r. ⌜ r ≡ zeros (now (p .entry)) at (k / 32 * 32) ⌝ }
+{
+    if k < 32 {
+        return true;
+    }
+    zeros_32(p, at)
+}
+
+fn zeros_by_16(p: &[u8], at: usize, k: usize) -> bool
+    requires { ⌜ (k < 32) × (at + k ≤ length (now p)) ⌝ }
+    ensures { λ r. ⌜ r ≡ zeros (now (p .entry)) at (k / 16 * 16) ⌝ }
+{
+    if k < 16 {
+        return true;
+    }
+    zeros_16(p, at)
+}
+
+fn zeros_by_8(p: &[u8], at: usize, k: usize) -> bool
+    requires { ⌜ (k < 16) × (at + k ≤ length (now p)) ⌝ }
+    ensures { λ r. ⌜ r ≡ zeros (now (p .entry)) at (k / 8 * 8) ⌝ }
+{
+    if k < 8 {
+        return true;
+    }
+    zeros_8(p, at)
+}
+
+// Whether the k bytes from `at`, fewer than eight, are zero; most often they are a W.
 fn zero_rest(p: &[u8], at: usize, k: usize) -> bool
     requires { ⌜ at + k ≤ length (now p) ⌝ }
     ensures { λ r. ⌜ r ≡ zeros (now (p .entry)) at k ⌝ }
@@ -63,8 +103,15 @@ fn zeros_inside(p: &[u8], at: usize, k: usize) -> bool
     requires { ⌜ at + k ≤ length (now p) ⌝ }
     ensures { λ r. ⌜ r ≡ zeros (now (p .entry)) at k ⌝ }
 {
-    let longs = k / 8;
-    zero_longs(p, at, longs) & zero_rest(p, at + 8 * longs, k % 8)
+    if 64 <= k {
+        return zero_bytes(p, at, k);
+    }
+    let past_32 = at + k / 32 * 32;
+    let past_16 = at + k / 16 * 16;
+    let past_8 = at + k / 8 * 8;
+    zeros_by_32(p, at, k)
+        & (zeros_by_16(p, past_32, k % 32)
+            & (zeros_by_8(p, past_16, k % 16) & zero_rest(p, past_8, k % 8)))
 }
 
 // Whether the k bytes from `at` are zero; a byte past the end is.
@@ -88,12 +135,12 @@ fn head_clean(shape: Shape, bits: u8, kind: u8, last: u8) -> bool
 
 // The bytes past the last field.
 fn tail_clean(p: &[u8], start: usize, used: u8) -> bool
-    requires { ⌜ start + 256 < 2 ^ 64 ⌝ }
+    requires { ⌜ start + 64 ≤ length (now p) ⌝ }
     ensures { λ r. ⌜ r ≡ zeros (now (p .entry)) (start + used) (64 - used) ⌝ }
 {
     let used = wide(used);
     if used < 64 {
-        return zeros(p, start + used, 64 - used);
+        return zeros_inside(p, start + used, 64 - used);
     }
     true
 }
@@ -106,20 +153,23 @@ fn absent_clean(present: bool, p: &[u8], start: usize, governed: Governed) -> bo
     if present {
         return true;
     }
+    if governed.len == 0 {
+        return true;
+    }
     zeros(p, start + wide(governed.offset), wide(governed.len))
 }
 
 // The bit and the D of an action's timing.
 fn timing_clean(p: &[u8], start: usize, period: bool, kind: u8) -> bool
-    requires { ⌜ start + 64 < 2 ^ 64 ⌝ }
+    requires { ⌜ start + 64 ≤ length (now p) ⌝ }
     ensures { λ r. ⌜ r ≡ ((eqb kind 2 || not period) && (ltb kind 2 || (period || zeros (now (p .entry)) (start + 16) 8))) ⌝ }
 {
-    ((kind == 2) | !period) & ((kind < 2) | (period | zeros(p, start + 16, 8)))
+    ((kind == 2) | !period) & ((kind < 2) | (period | zeros_8(p, start + 16)))
 }
 
 // What is asked of tables 3 and 5 beside their fields.
 fn kind_clean(table: u8, p: &[u8], start: usize, bit_1: bool, kind: u8) -> bool
-    requires { ⌜ start + 64 < 2 ^ 64 ⌝ }
+    requires { ⌜ start + 64 ≤ length (now p) ⌝ }
     ensures { λ r. ⌜ r ≡ cond (eqb table 3) ((eqb kind 2 || not «bit_1») && (ltb kind 2 || («bit_1» || zeros (now (p .entry)) (start + 16) 8))) (cond (eqb table 5) («bit_1» || eqb kind 0) true) ⌝ }
 {
     if table == 3 {
@@ -131,21 +181,17 @@ fn kind_clean(table: u8, p: &[u8], start: usize, bit_1: bool, kind: u8) -> bool
     true
 }
 
-// Whether record n is clean. A record past the pack is, as a record of zeros.
-pub fn clean(p: &[u8], n: usize) -> bool
+// Whether record n, of `table`, is clean.
+pub fn clean(p: &[u8], n: usize, table: u8, shape: Shape) -> bool
+    requires { ⌜ (n < length (now p) / 64) × ((table ≡ byteOf (now p) n 0) × (shape ≡ shapeOf table)) ⌝ }
     ensures { λ r. ⌜ r ≡ clean (now (p .entry)) n ⌝ }
 {
-    if p.len() / 64 < n {
-        return true;
-    }
     let start = n * 64;
-    let table = byte(p, start, 0);
-    let bits = byte(p, start, 1);
-    let kind = byte(p, start, 2);
+    let bits = p[start + 1];
+    let kind = p[start + 2];
     let bit_0 = bit(bits, 1);
     let bit_1 = bit(bits, 2);
-    let shape = crate::shape::shape_of(table);
-    let head = head_clean(shape, bits, kind, byte(p, start, 3));
+    let head = head_clean(shape, bits, kind, p[start + 3]);
     let tail = tail_clean(p, start, shape.used);
     let absent_0 = absent_clean(bit_0, p, start, shape.bit_0);
     let absent_1 = absent_clean(bit_1, p, start, shape.bit_1);

@@ -17,9 +17,7 @@ use crate::walker::record_by_walker;
 use answers::Outcome;
 use answers::Refusal;
 use identity::IdentityPlace;
-use schema::number::byte;
-use schema::number::word;
-use schema::read::byte_of;
+use schema::number::word_inside;
 
 const MAX_PACK: usize = 4194304;
 
@@ -66,14 +64,14 @@ fn table_after(kind: PackKind, previous: u8, table: u8) -> bool
 
 // Whether record n, of `table`, is in its place.
 fn in_place(kind: PackKind, pack: &[u8], n: u32, table: u8) -> bool
-    requires { ⌜ (n ≤ length (now pack) / 64) × (table ≡ byteOf (now pack) n 0) ⌝ }
+    requires { ⌜ (n < length (now pack) / 64) × (table ≡ byteOf (now pack) n 0) ⌝ }
     ensures { λ r. ⌜ r ≡ inPlace kind (now (pack .entry)) n ⌝ }
 {
     if n == 0 {
         return table == first_table(kind);
     }
     let before = n - 1;
-    table_after(kind, byte_of(pack, before as usize, 0), table)
+    table_after(kind, pack[before as usize * 64], table)
 }
 
 // Bit j of a byte.
@@ -91,9 +89,9 @@ fn identity_at(pack: &[u8], n: u32, start: usize, j: u8) -> IdentityPlace
 {
     let first = start + 4 + 8 * (j as usize);
     IdentityPlace {
-        house: bit_at(byte(pack, start, 1), j),
-        start: word(pack, first),
-        len: word(pack, first + 4),
+        house: bit_at(pack[start + 1], j),
+        start: word_inside(pack, first),
+        len: word_inside(pack, first + 4),
     }
 }
 
@@ -158,10 +156,11 @@ fn check_record<'a>(
     if !in_place(kind, pack, n, table) {
         return Outcome::Refused(Refusal::TableOutOfPlace { record: n });
     }
-    if !clean(pack, n as usize) {
+    let shape = shape_of(table);
+    if !clean(pack, n as usize, table, shape) {
         return Outcome::Refused(Refusal::StrayByte { record: n });
     }
-    check_identities(pack, batch, house, n, start, shape_of(table).identities)
+    check_identities(pack, batch, house, n, start, shape.identities)
 }
 
 // Record by record, until the walker is at the end.

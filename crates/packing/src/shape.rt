@@ -20,46 +20,41 @@ pub struct Shape {
 
 pub const TABLES: usize = 25;
 
-// The bytes of each number are the shape's numbers in their order.
-const SHAPES: [u64; TABLES] = [
-    0x0700_2C03_0000_0000, // 0 federate
-    0x0100_3001_0000_0000, // 1 enclave
-    0x0300_2C00_2004_2408, // 2 reactors
-    0x0303_2000_0C04_0000, // 3 actions
-    0x0000_1400_0000_0000, // 4 ports
-    0x0301_3800_0000_3404, // 5 reactions
-    0x0000_0C00_0000_0000, // 6 modes
-    0x0300_4000_0404_0C04, // 7 scopes
-    0x0000_0C00_0000_0000, // 8 reaction_triggers
-    0x0000_0800_0000_0000, // 9 reaction_use_ports
-    0x0000_0800_0000_0000, // 10 reaction_effect_ports
-    0x0000_0800_0000_0000, // 11 reaction_actions
-    0x0000_0800_0000_0000, // 12 reaction_modes
-    0x0000_0800_0000_0000, // 13 scope_descendants
-    0x0000_0800_0000_0000, // 14 scope_logical_actions
-    0x0000_1000_0000_0000, // 15 scope_timer_startups
-    0x0000_0C00_0000_0000, // 16 scope_reset_reactions
-    0x0000_1000_0000_0000, // 17 scope_startup_reactions
-    0x0000_1000_0000_0000, // 18 scope_shutdown_reactions
-    0x0000_1000_0000_0000, // 19 startup_actions
-    0x0000_1000_0000_0000, // 20 timer_startup_actions
-    0x0000_1000_0000_0000, // 21 shutdown_reactions
-    0x0000_0800_0000_0000, // 22 shutdown_actions
-    0x0103_1801_0000_0000, // 23 routes
-    0x0103_0C01_0000_0000, // 24 required bindings
-];
-
 // A record without fields.
 const NO_FIELDS: u64 = 0x0000_0400_0000_0000;
 
+// The bytes of each number are the shape's numbers in their order. A match is compiled to a table; an array would be laid on the stack for each record.
 fn shape_number(table: u8) -> u64
     ensures { λ r. ⌜ unpacked r ≡ shapeOf table ⌝ }
 {
-    let t = table as usize;
-    if t < TABLES {
-        return SHAPES[t];
+    match table {
+        0 => 0x0700_2C03_0000_0000, // federate
+        1 => 0x0100_3001_0000_0000, // enclave
+        2 => 0x0300_2C00_2004_2408, // reactors
+        3 => 0x0303_2000_0C04_0000, // actions
+        4 => 0x0000_1400_0000_0000, // ports
+        5 => 0x0301_3800_0000_3404, // reactions
+        6 => 0x0000_0C00_0000_0000, // modes
+        7 => 0x0300_4000_0404_0C04, // scopes
+        8 => 0x0000_0C00_0000_0000, // reaction_triggers
+        9 => 0x0000_0800_0000_0000, // reaction_use_ports
+        10 => 0x0000_0800_0000_0000, // reaction_effect_ports
+        11 => 0x0000_0800_0000_0000, // reaction_actions
+        12 => 0x0000_0800_0000_0000, // reaction_modes
+        13 => 0x0000_0800_0000_0000, // scope_descendants
+        14 => 0x0000_0800_0000_0000, // scope_logical_actions
+        15 => 0x0000_1000_0000_0000, // scope_timer_startups
+        16 => 0x0000_0C00_0000_0000, // scope_reset_reactions
+        17 => 0x0000_1000_0000_0000, // scope_startup_reactions
+        18 => 0x0000_1000_0000_0000, // scope_shutdown_reactions
+        19 => 0x0000_1000_0000_0000, // startup_actions
+        20 => 0x0000_1000_0000_0000, // timer_startup_actions
+        21 => 0x0000_1000_0000_0000, // shutdown_reactions
+        22 => 0x0000_0800_0000_0000, // shutdown_actions
+        23 => 0x0103_1801_0000_0000, // routes
+        24 => 0x0103_0C01_0000_0000, // required bindings
+        _ => NO_FIELDS,
     }
-    NO_FIELDS
 }
 
 fn unpack(x: u64) -> Shape

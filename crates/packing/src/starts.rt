@@ -1,25 +1,31 @@
 // Where each table of an enclave begins, in one pass over its records.
 ghost use mathlib.Core.Path.{_≡_};
-ghost use Rattle.packing.specs.Starts.{reaches, tableStarts};
-use crate::walker::Record;
-use crate::walker::record_by_walker;
+ghost use Rattle.packing.specs.Starts.{recordsOf, reaches, tableStarts};
 use schema::TableStarts;
 
 const MAX_RECORDS: usize = 65536;
 
+// The records that are looked at.
+fn records_of(p: &[u8]) -> usize
+    ensures { λ r. ⌜ r ≡ recordsOf (now (p .entry)) ⌝ }
+{
+    let records = p.len() / 64;
+    if records < MAX_RECORDS {
+        return records;
+    }
+    MAX_RECORDS
+}
+
 // Whether record k is table t's first, or past it.
-fn reaches(p: &[u8], t: usize, k: u32) -> bool
+fn reaches(p: &[u8], records: usize, t: usize, k: u32) -> bool
+    requires { ⌜ records ≡ recordsOf (now p) ⌝ }
     ensures { λ r. ⌜ r ≡ reaches (now (p .entry)) t k ⌝ }
 {
     let place = k as usize;
-    let record = record_by_walker(p, place);
-    let Record::At { table, start: _ } = record else {
-        return true;
-    };
-    if MAX_RECORDS <= place {
+    if records <= place {
         return true;
     }
-    let table = table as usize;
+    let table = p[place * 64] as usize;
     (table < 2) | (t <= table)
 }
 
@@ -27,11 +33,12 @@ fn reaches(p: &[u8], t: usize, k: u32) -> bool
 pub fn table_starts(p: &[u8], rows: u32) -> TableStarts
     ensures { λ r. ⌜ r ≡ tableStarts (now (p .entry)) rows ⌝ }
 {
+    let records = records_of(p);
     let mut starts = [0u32; 26];
     let mut t: usize = 0;
     let mut k = rows;
     while t < 26 {
-        if !reaches(p, t, k) {
+        if !reaches(p, records, t, k) {
             k += 1;
             continue;
         }

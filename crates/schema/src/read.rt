@@ -45,6 +45,11 @@ pub fn byte_of(p: &[u8], n: usize, j: usize) -> u8
     requires { ⌜ n ≤ length (now p) / 64 ⌝ }
     ensures { λ r. ⌜ r ≡ byteOf (now (p .entry)) n j ⌝ }
 {
+    if n < p.len() / 64 {
+        if j < 64 {
+            return p[n * 64 + j];
+        }
+    }
     crate::number::byte(p, n * 64, j)
 }
 
@@ -52,6 +57,11 @@ pub fn word_of(p: &[u8], n: usize, j: usize) -> u32
     requires { ⌜ (n ≤ length (now p) / 64) × (j < 64) ⌝ }
     ensures { λ r. ⌜ r ≡ number 4 (now (p .entry)) (n * 64 + j) ⌝ }
 {
+    if n < p.len() / 64 {
+        if j <= 60 {
+            return crate::number::word_inside(p, n * 64 + j);
+        }
+    }
     crate::number::word(p, n * 64 + j)
 }
 
@@ -59,6 +69,11 @@ pub fn long_of(p: &[u8], n: usize, j: usize) -> u64
     requires { ⌜ (n ≤ length (now p) / 64) × (j < 64) ⌝ }
     ensures { λ r. ⌜ r ≡ number 8 (now (p .entry)) (n * 64 + j) ⌝ }
 {
+    if n < p.len() / 64 {
+        if j <= 56 {
+            return crate::number::long_inside(p, n * 64 + j);
+        }
+    }
     crate::number::long(p, n * 64 + j)
 }
 

@@ -1,7 +1,8 @@
 -- `enclave::passes::check_pass` meets its contract. Assumes nothing.
 use Rattle.enclave.specs.Passes.{passAt, passChecks}
 use Rattle.checks.specs.Image.{image}
-use Rattle.answers.proofs.Loops.{Remaining, remaining-start, remaining-step, remaining-stop, remaining-none}
+use Rattle.answers.proofs.Loops.{Remaining, remaining-start, remaining-none}
+use Rattle.enclave.proofs.Held.{held-step, held-stop}
 use borrow.Author.Needs.{needs}
 use native.Mathlib.Omega.{arith}
 use Prim.Native.Nat.{_-_}
@@ -16,7 +17,7 @@ abbrev μ-loop : tie.MeasureT-loop
 
 returns : tie.Need-returns Inv-loop μ-loop
 unfolding passChecks
-returns c = rw (← c .before .before .before .before .before .items-of .ensures) (remaining-stop (c .before .before .before .before .loop .inv) (c .before .before .before .loop-test .taken) (c .before .before .check-item .ensures) (c .enum-told2 .given .1))
+returns c = rw (← c .before .before .before .before .before .items-of .ensures) (held-stop (c .before .before .before .before .loop .inv) (c .before .before .before .loop-test .taken) (c .before .before .item-holds .ensures) (c .before .if1 .taken) (c .check-item .ensures))
 
 returns-2 : tie.Need-returns-2 Inv-loop μ-loop
 unfolding passChecks
@@ -31,10 +32,9 @@ check-pass-spec =
     (λ c κs. search needs)
     (λ c. remaining-start _ _)
     (λ c κs. search needs)
-    (λ c. search needs)
-    (λ c. search needs)
+    (λ c κs. search needs)
     returns
     (λ c. omega arith)
     (λ c. omega arith)
-    (λ c. remaining-step (c .before .before .before .before .loop .inv) (c .before .before .before .loop-test .taken) (c .before .before .check-item .ensures) (c .enum-told .given .1))
+    (λ c. held-step (c .before .before .before .loop .inv) (c .before .before .loop-test .taken) (c .before .item-holds .ensures) (c .if1 .left))
     returns-2)

@@ -19,5 +19,5 @@ tail-clean-spec =
     (λ c. search needs)
     (λ c. search needs)
     (λ c κs. search needs)
-    (λ c. c .zeros .ensures ∙ rw (c .before .before .wide .ensures .0))
+    (λ c. c .zeros-inside .ensures ∙ rw (c .before .before .wide .ensures .0))
     returns-2)

@@ -9,4 +9,4 @@ timing-clean-spec =
     (tie.spec
     (λ c. search needs)
     (λ c κs. search needs)
-    (λ c. rw (c .zeros .ensures)))
+    (λ c. rw (c .zeros-8 .ensures)))

@@ -3,6 +3,7 @@ use Prim.Native.Nat.{ℕ, zero, suc, _-_}
 use mathlib.Core.Bool.{Bool}
 use mathlib.Core.Path.{_≡_, refl, _∙_}
 use mathlib.Core.List.{List}
+use native.Mathlib.Nat.{add-zero}
 use native.Mathlib.Omega.{arith}
 use lib.Dec.{eqb}
 use borrow.Author.Needs.{needs}
@@ -30,6 +31,7 @@ in-place-spec =
     (λ c. first _ _ _ _ _ (c .before .if1 .taken) (c .before .before .before .pre .1) (c .first-table .ensures))
     (λ c. search needs)
     (λ c. search needs)
+    (λ c. search needs)
+    (λ c. search needs)
     (λ c κs. search needs)
-    (λ c κs. search needs)
-    (λ c. later _ _ _ _ _ _ (c .before .before .if1 .left) (c .before .before .before .before .pre .1) (c .before .byte-of .ensures) (c .table-after .ensures)))
+    (λ c. later _ _ _ _ _ _ (c .before .before .if1 .left) (c .before .before .before .before .pre .1) (rw add-zero) (c .table-after .ensures)))

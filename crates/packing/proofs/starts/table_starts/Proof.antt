@@ -12,19 +12,19 @@ use Rattle.packing.proofs.starts.table_starts.Statement.{statement}
 use Rattle.packing.proofs.starts.table_starts.Tie as tie
 
 abbrev Inv-loop : tie.InvT-loop
-Inv-loop p rows starts₀ t₀ k₀ starts t k = Fixed p rows starts t k
+Inv-loop p rows records starts₀ t₀ k₀ starts t k = Fixed p rows starts t k
 
 abbrev μ-loop : tie.MeasureT-loop
-μ-loop p rows starts₀ t₀ k₀ starts t k = (26 - t) + (recordsOf p - k)
+μ-loop p rows records starts₀ t₀ k₀ starts t k = (26 - t) + (recordsOf p - k)
 
-passed : (c : tie.Then1 Inv-loop μ-loop) → reaches (now (c .before .before .before .before .before .args .p)) (c .before .before .before .loop .t) (c .before .before .before .loop .k) ≡ false
+passed : (c : tie.Then1 Inv-loop μ-loop) → reaches (now (c .before .before .before .before .before .before .args .p)) (c .before .before .before .loop .t) (c .before .before .before .loop .k) ≡ false
 passed c = refused (c .before .reaches .ensures) (c .if1 .taken)
 
 -- the record is passed: it lies inside
-inside : (c : tie.Then1 Inv-loop μ-loop) → c .before .before .before .loop .k < recordsOf (now (c .before .before .before .before .before .args .p))
+inside : (c : tie.Then1 Inv-loop μ-loop) → c .before .before .before .loop .k < recordsOf (now (c .before .before .before .before .before .before .args .p))
 inside c =
     let l = c .before .before .before .loop in
-    not-reached (now (c .before .before .before .before .before .args .p)) (l .t) (l .k) (passed c) .0
+    not-reached (now (c .before .before .before .before .before .before .args .p)) (l .t) (l .k) (passed c) .0
 
 pub table-starts-spec : {M : Type 1} → statement M
 table-starts-spec =
@@ -32,9 +32,10 @@ table-starts-spec =
     (tie.spec
     Inv-loop
     μ-loop
+    (λ c κs. search needs)
     (λ c. fixed-none _ _ _ refl)
     (λ c κs. search needs)
-    (λ c. omega (arith, inside c, records-few (now (c .before .before .before .before .before .args .p))))
+    (λ c. omega (arith, inside c, records-few (now (c .before .before .before .before .before .before .args .p))))
     (λ c. omega (arith, inside c))
     (λ c. fixed-move (c .before .before .before .loop .inv) (passed c))
     (λ c. search needs)
