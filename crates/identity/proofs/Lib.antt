@@ -1,6 +1,6 @@
 pub mod Tests
 pub mod Scalar
-pub mod VisibleText
+pub mod Steps
 pub mod Rfc
 pub mod Unicode
 pub mod Utf8

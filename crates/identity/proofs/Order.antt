@@ -1,20 +1,19 @@
 -- The order of two texts, byte by byte. Assumes nothing.
 use Prim.Native.Nat.{ℕ, _+_, _<_, _≤_}
+use mathlib.Core.Bool.{Bool, true}
 use mathlib.Core.Path.{_≡_, refl, _∙_, sym}
 use mathlib.Core.List.{List, [], _∷_}
 use native.Mathlib.Numerals.{add-one}
 use native.Mathlib.Omega.{arith}
 use lib.Dec.{ltb}
-use lib.ListN.{length, getD, drop, drop-of-length-le}
+use lib.ListN.{length, getD, drop-of-length-le}
 use lib.Seq.{drop-cons}
-use borrow.Author.Tests.{ltb-false, lt-ltb, le-ltb}
+use borrow.Author.Tests.{ltb-false, lt-ltb, le-ltb, eqb-true}
 use Rattle.identity.specs.declared.ByteOrder.the-variants.{Less, Equal, Greater}
 use Rattle.identity.specs.Order.{compared}
+use Rattle.identity.specs.Scan.{every, sameAt, Tied}
 use Rattle.identity.proofs.Tests.{cases}
-
--- the first i bytes are the same: the rest decides
-pub record Tied (a b : List ℕ) (i : ℕ) : Type 0 where
-  pub same : compared a b ≡ compared (drop i a) (drop i b)
+use Rattle.identity.proofs.Steps.{along}
 
 pub tied-start : (a b : List ℕ) → Tied a b 0
 tied-start a b = record { same = refl }
@@ -43,6 +42,12 @@ pub tied-step : {a b : List ℕ} {i : ℕ} → Tied a b i → i < length a → i
 unfolding compared
 tied-step {a} {b} {i} t l h y x =
     record { same = t .same ∙ rw (add-one, drop-cons a i 0, drop-cons b i 0, le-ltb _ _ y, le-ltb _ _ x) }
+
+pub tied-block : {a b : List ℕ} {i : ℕ} (x : Bool) → Tied a b i → x ≡ every (sameAt a b) i 16 → x ≡ true → i + 16 ≤ length a → i + 16 ≤ length b → Tied a b (i + 16)
+tied-block {a} {b} {i} x t e f l h =
+    along (sameAt a b) (Tied a b) i 16 (λ j _ m q p.
+    let n = eqb-true (getD a j 0) (getD b j 0) q in
+    tied-step p (omega arith) (omega arith) (omega arith) (omega arith)) (sym e ∙ f) t
 
 pub ruleset order-laws = (a-longer, b-longer, both-end, a-below, b-below, tied-step)
 

@@ -1,7 +1,7 @@
 -- One scalar of a text, and the decoder on what is left. Assumes nothing.
 use Prim.Native.Nat.{ℕ, zero, suc, _+_, _*_, _-_, _^_, _<_, _≤_}
 use mathlib.Core.Bool.{Bool, true, _&&_}
-use mathlib.Core.Path.{_≡_, refl, _∙_, sym, subst}
+use mathlib.Core.Path.{_≡_, refl, _∙_, ap, sym, subst}
 use mathlib.Core.List.{List, [], _∷_}
 use native.Mathlib.Nat.{add-zero, zero-add}
 use native.Mathlib.Omega.{arith}
@@ -16,6 +16,7 @@ use Rattle.identity.specs.Within.{within}
 use Rattle.identity.specs.declared.Decoded.{Decoded}
 use Rattle.identity.specs.declared.Decoded.the-variants.{Scalar, Malformed}
 use Rattle.identity.specs.Utf8.{allowed, follows, checked, valueOfTwo, valueOfThree, valueOfFour, twoBytes, threeBytes, fourBytes, scalarOf, scalarAt}
+use Rattle.identity.specs.Scan.{widthOf}
 use Rattle.identity.specs.Utf8.{some, none, before, inFront, decodeAfter, decode}
 use Rattle.identity.proofs.Tests.{cases, both, within-true, within-in, within-below, within-above}
 
@@ -81,7 +82,36 @@ module _ (s : List ℕ) (i : ℕ) where
         within-above 0xF0 0xF4 (getD s i 0) l,
       )
 
+  -- its width, from what `scalar_width` finds of the value v and the following bytes
+  pub wide-one : getD s i 0 < 0x80 → 1 ≡ widthOf (scalarAt s i)
+  unfolding widthOf
+  wide-one h = ap widthOf (one-byte (getD s i 0) h refl)
+
+  pub wide-no-first : 0x80 ≤ getD s i 0 → getD s i 0 < 0xC2 → 0 ≡ widthOf (scalarAt s i)
+  unfolding widthOf
+  wide-no-first l h = ap widthOf (no-first l h)
+
+  pub wide-two : (b v r : ℕ) (f : Bool) → 0xC2 ≤ getD s i 0 → getD s i 0 < 0xE0 → b ≡ getD s (i + 1) 0 → f ≡ follows b → v ≡ valueOfTwo (getD s i 0) b → r ≡ widthOf (checked f 0x80 v 2) → r ≡ widthOf (scalarAt s i)
+  wide-two b v r f l h eb ef ev e = e ∙ rw (ef, ev) (ap widthOf (by-two b (twoBytes (getD s i 0) b) l h eb refl))
+
+  pub wide-three : (b c v r : ℕ) (f g : Bool) → 0xE0 ≤ getD s i 0 → getD s i 0 < 0xF0 → b ≡ getD s (i + 1) 0 → c ≡ getD s (i + 2) 0 → f ≡ follows b → g ≡ follows c → v ≡ valueOfThree (getD s i 0) b c → r ≡ widthOf (checked (f && g) 0x800 v 3) → r ≡ widthOf (scalarAt s i)
+  wide-three b c v r f g l h eb ec ef eg ev e =
+      e ∙ rw (ef, eg, ev) (ap widthOf (by-three b c (threeBytes (getD s i 0) b c) l h eb ec refl))
+
+  pub wide-four : (b c d v r : ℕ) (f g k : Bool) → 0xF0 ≤ getD s i 0 → getD s i 0 < 0xF5 → b ≡ getD s (i + 1) 0 → c ≡ getD s (i + 2) 0 → d ≡ getD s (i + 3) 0 → f ≡ follows b → g ≡ follows c → k ≡ follows d → v ≡ valueOfFour (getD s i 0) b c d → r ≡ widthOf (checked (f && (g && k)) 0x10000 v 4) → r ≡ widthOf (scalarAt s i)
+  wide-four b c d v r f g k l h eb ec ed ef eg ek ev e =
+      e ∙ rw (ef, eg, ek, ev) (ap widthOf (by-four b c d (fourBytes (getD s i 0) b c d) l h eb ec ed refl))
+
+  pub wide-past-first : 0xF5 ≤ getD s i 0 → 0 ≡ widthOf (scalarAt s i)
+  unfolding widthOf
+  wide-past-first l = ap widthOf (past-first l)
+
+pub ruleset width-laws = (wide-one, wide-no-first, wide-two, wide-three, wide-four, wide-past-first)
+
 pub ruleset scalar-laws = (one-byte, no-first, by-two, by-three, by-four, past-first)
+
+pub ascii-scalar : (s : List ℕ) (i : ℕ) → getD s i 0 < 0x80 → scalarAt s i ≡ Scalar (getD s i 0) 1
+ascii-scalar s i h = sym (one-byte s i (getD s i 0) h refl)
 
 pub record Follows (b : ℕ) : Type 0 where
   pub low : 0x80 ≤ b
@@ -166,15 +196,8 @@ pub ends-at : (s : List ℕ) (i : ℕ) {v w : ℕ} → i < length s → scalarAt
 ends-at s i h e = ends s i h (form-at s i e)
 
 -- the next place, after the scalar that x says stands at i
-module _ (s : List ℕ) (i : ℕ) (x : Decoded) (v w : ℕ) (e : x ≡ scalarAt s i) (f : x ≡ Scalar v w) (h : i < length s) where
-  pub next-inside : i + w ≤ length s
-  next-inside = ends-at s i h (sym e ∙ f)
-
-  pub next-fits : length s * 1 < 2 ^ 63 → Fits w64 (i + w)
-  next-fits l = let n = next-inside in fits-le n (record { fits = omega arith })
-
-  pub next-less : (j : ℕ) → i + w ≤ j → length s - j < length s - i
-  next-less j l = let n = width-at s i (sym e ∙ f) .0 in omega arith
+pub next-fits : (s : List ℕ) (i : ℕ) (x : Decoded) (v w : ℕ) → x ≡ scalarAt s i → x ≡ Scalar v w → i < length s → length s * 1 < 2 ^ 63 → Fits w64 (i + w)
+next-fits s i x v w e f h l = let n = ends-at s i h (sym e ∙ f) in fits-le n (record { fits = omega arith })
 
 -- bytes that are passed over are left off
 after-drop : (s : List ℕ) (k : ℕ) → decodeAfter s k ≡ decode (drop k s)

@@ -15,6 +15,9 @@ pub both : (x y : Bool) → x && y ≡ true → (x ≡ true) × (y ≡ true)
 both true y e = (refl, e)
 both false y e = let z : _≡_ {A = Bool} true false = sym e in absurd (true≢false z)
 
+pub both-le : (m a b : ℕ) → leb m a && leb m b ≡ true → (m ≤ a) × (m ≤ b)
+both-le m a b e = let h = both (leb m a) (leb m b) e in (leb-true m a (h .0), leb-true m b (h .1))
+
 pub and-true : (b : Bool) → b && true ≡ b
 and-true true = refl
 and-true false = refl

@@ -1,11 +1,11 @@
--- How many code points the two sets have, and that a visible ASCII character is in neither. Assumes nothing.
+-- How many code points the two sets have, and which of them printable ASCII characters are not in. Assumes nothing.
 use Prim.Native.Nat.{ℕ, suc, _+_, _-_}
 use mathlib.Core.Bool.{true, false}
 use mathlib.Core.Path.{_≡_, refl}
 use mathlib.Core.List.{List, [], _∷_}
 use native.Mathlib.Omega.{arith}
 use Rattle.identity.specs.Unicode.{controls, whiteSpaces, control, whiteSpace}
-use Rattle.identity.specs.Scan.{visible}
+use Rattle.identity.specs.Scan.{printable, visible}
 use Rattle.identity.proofs.Tests.{within-true, within-below, within-above}
 
 abbrev size : List (ℕ × ℕ) → ℕ
@@ -18,10 +18,10 @@ sixty-five-controls = refl
 pub twenty-five-spaces : size whiteSpaces ≡ 25
 twenty-five-spaces = refl
 
-pub visible-no-control : (v : ℕ) → visible v ≡ true → control v ≡ false
+pub printable-no-control : (v : ℕ) → printable v ≡ true → control v ≡ false
 unfolding control
-visible-no-control v e =
-    let h = within-true 0x21 0x7E v e in
+printable-no-control v e =
+    let h = within-true 0x20 0x7E v e in
     rw (within-above 0x0000 0x001F v (omega arith), within-below 0x007F 0x009F v (omega arith))
 
 pub visible-no-space : (v : ℕ) → visible v ≡ true → whiteSpace v ≡ false

@@ -1,41 +1,46 @@
--- UTF-8, scalar by scalar: what the loop of `is_utf8` keeps. Assumes nothing.
+-- UTF-8, scalar by scalar: the steps of `is_utf8`. Assumes nothing.
 use Prim.Native.Nat.{ℕ, _+_, _<_, _≤_}
-use mathlib.Core.Bool.{true, false}
+use mathlib.Core.Bool.{true}
 use mathlib.Core.Path.{_≡_, refl, _∙_, ap, sym}
 use mathlib.Core.List.{List}
-use lib.ListN.{length, drop}
+use native.Mathlib.Omega.{arith}
+use lib.ListN.{length, getD, drop}
+use borrow.Author.Tests.{ltb-true}
 use Rattle.identity.specs.declared.Decoded.{Decoded}
 use Rattle.identity.specs.declared.Decoded.the-variants.{Scalar, Malformed}
 use Rattle.identity.specs.Utf8.{Scalars, some, none, before, isSome, decode, utf8, scalarAt}
-use Rattle.identity.specs.Scan.{VisibleBetween}
-use Rattle.identity.proofs.VisibleText.{visible-scalar, along}
-use Rattle.identity.proofs.Scalar.{decode-at, decode-malformed, decode-end}
-
--- the text is UTF-8 exactly where its rest from i is
-pub record Utf8From (s : List ℕ) (i : ℕ) : Type 0 where
-  pub same : utf8 s ≡ utf8 (drop i s)
+use Rattle.identity.specs.Scan.{widthOf, asciiAt, Run, Stepped, utf8From}
+use Rattle.identity.proofs.Steps.{stopped, moved, moved-along, Kept}
+use Rattle.identity.proofs.Scalar.{ascii-scalar, width-at, ends-at, decode-at, decode-malformed, decode-end}
 
 some-before : (v : ℕ) (x : Scalars) → isSome (before v x) ≡ isSome x
 some-before v (some vs) = refl
 some-before v none = refl
 
-from-scalar : {s : List ℕ} {i v w : ℕ} → Utf8From s i → i < length s → scalarAt s i ≡ Scalar v w → Utf8From s (i + w)
-from-scalar {s} {i} {v} {w} p h e =
-    record { same = p .same ∙ ap isSome (decode-at s i h e) ∙ some-before v (decode (drop (i + w) s)) }
+over-scalar : (s : List ℕ) (i : ℕ) {v w : ℕ} → i < length s → scalarAt s i ≡ Scalar v w → utf8From s i ≡ utf8From s (i + w)
+over-scalar s i {v} {w} h e = ap isSome (decode-at s i h e) ∙ some-before v (decode (drop (i + w) s))
 
-from-between : {s : List ℕ} {i j : ℕ} → VisibleBetween s i j → Utf8From s i → Utf8From s j
-from-between {s} = along s (Utf8From s) (λ k h e q. from-scalar q h (visible-scalar s k e))
+-- a step over a run of ASCII
+pub utf8-run : (s : List ℕ) (i k : ℕ) → Run (asciiAt s) i k (length s) → (k ≡ 0 → ⊥) → Stepped (utf8From s) (length s) i k
+utf8-run s i k p d =
+    let h = p .inside in
+    moved-along (utf8From s) (length s) i (asciiAt s) k h (p .all) d
+    (λ j _ l e. over-scalar s j (omega arith) (ascii-scalar s j (ltb-true (getD s j 0) 0x80 e)))
 
-pub utf8-start : {s : List ℕ} {i : ℕ} → VisibleBetween s 0 i → Utf8From s i
-utf8-start b = from-between b (record { same = refl })
+-- a step over a scalar
+by-scalar : (s : List ℕ) (i : ℕ) (x : Decoded) → i < length s → scalarAt s i ≡ x → Stepped (utf8From s) (length s) i (widthOf x)
+unfolding widthOf
+by-scalar s i (Scalar v w) h e =
+    moved (utf8From s) (length s) i w (ends-at s i h e) (width-at s i e .0) (over-scalar s i h e)
+by-scalar s i Malformed h e = stopped (utf8From s) (length s) i (omega arith) (ap isSome (decode-malformed s i h e))
 
-pub utf8-step : {s : List ℕ} {i j v w : ℕ} (x : Decoded) → Utf8From s i → i < length s → x ≡ scalarAt s i → x ≡ Scalar v w → VisibleBetween s (i + w) j → Utf8From s j
-utf8-step x p h e f b = from-between b (from-scalar p h (sym e ∙ f))
+pub utf8-scalar : (s : List ℕ) (i w : ℕ) → i < length s → w ≡ widthOf (scalarAt s i) → Stepped (utf8From s) (length s) i w
+utf8-scalar s i w h e = rw e (by-scalar s i (scalarAt s i) h refl)
 
-pub utf8-stop : {s : List ℕ} {i : ℕ} (x : Decoded) → Utf8From s i → i < length s → x ≡ scalarAt s i → x ≡ Malformed → false ≡ utf8 s
-utf8-stop {s} {i} x p h e f = sym (p .same ∙ ap isSome (decode-malformed s i h (sym e ∙ f)))
+pub ruleset utf8-laws = (utf8-run, utf8-scalar)
 
-pub utf8-end : {s : List ℕ} {i : ℕ} → Utf8From s i → length s ≤ i → true ≡ utf8 s
-utf8-end {s} {i} p h = sym (p .same ∙ ap isSome (decode-end s i h))
+pub utf8-start : (s : List ℕ) → Kept (utf8 s) (utf8From s) (length s) 0
+utf8-start s = record { inside = omega arith; same = refl }
 
-pub ruleset utf8-laws = (utf8-start, utf8-step, utf8-stop, utf8-end)
+pub utf8-end : (s : List ℕ) (i : ℕ) → Kept (utf8 s) (utf8From s) (length s) i → length s ≤ i → true ≡ utf8 s
+utf8-end s i p h = sym (p .same ∙ ap isSome (decode-end s i h))

@@ -1,6 +1,6 @@
--- A valid identity, scalar by scalar: what the loop of `valid_id` keeps. Assumes nothing.
-use Prim.Native.Nat.{ℕ, _+_, _<_, _≤_}
-use mathlib.Core.Bool.{Bool, true, false, not, _&&_, _||_}
+-- A valid identity, scalar by scalar: the steps of `valid_id`. Assumes nothing.
+use Prim.Native.Nat.{ℕ, _+_, _-_, _<_, _≤_}
+use mathlib.Core.Bool.{Bool, true, false, not, _&&_, _||_, cond}
 use mathlib.Core.Path.{_≡_, refl, _∙_, ap, sym}
 use mathlib.Core.List.{List, [], _∷_}
 use native.Mathlib.Omega.{arith}
@@ -12,11 +12,11 @@ use Rattle.identity.specs.declared.Decoded.the-variants.{Scalar, Malform
 use Rattle.identity.specs.Utf8.{Scalars, some, none, before, decode, isSome, utf8, scalarAt}
 use Rattle.identity.specs.Unicode.{control, whiteSpace}
 use Rattle.identity.specs.Identity.{noControl, last, validScalars, validText, validId}
-use Rattle.identity.specs.Scan.{visible, VisibleBetween}
-use Rattle.identity.proofs.Tests.{cases, and-false}
-use Rattle.identity.proofs.Unicode.{visible-no-control, visible-no-space}
-use Rattle.identity.proofs.VisibleText.{visible-scalar, along}
-use Rattle.identity.proofs.Scalar.{width-at, ends-at, decode-at, decode-malformed, decode-end}
+use Rattle.identity.specs.Scan.{visible, printableAt, Run, Stepped, idFrom}
+use Rattle.identity.proofs.Tests.{cases, and-false, within-true, within-in}
+use Rattle.identity.proofs.Unicode.{printable-no-control, visible-no-space}
+use Rattle.identity.proofs.Steps.{stopped, moved, moved-along, Kept}
+use Rattle.identity.proofs.Scalar.{ascii-scalar, width-at, ends-at, decode-at, decode-malformed, decode-end}
 
 -- a scalar that no identity has at that place: a control, or white space at an edge
 abbrev refused : ℕ → Bool → Bool
@@ -97,48 +97,82 @@ left-at s n h =
     more : (n ≡ length s → ⊥) → n < length s
     more d = omega arith
 
--- the whole text is a valid identity exactly where its rest from i may end one
-pub record ValidFrom (s : List ℕ) (i : ℕ) : Type 0 where
-  pub same : validId s ≡ validRestText (eqb i 0) (decode (drop i s))
+-- `idFrom` by the rest alone: a letter before it keeps it as it is
+rest-is : (first : Bool) (x : Scalars) → validText (cond first x (before 0x61 x)) ≡ validRestText first x
+unfolding control whiteSpace
+rest-is true x = valid-text x
+rest-is false (some vs) = valid-scalars (0x61 ∷ vs)
+rest-is false none = refl
 
-at-scalar : {s : List ℕ} {i v w : ℕ} → ValidFrom s i → i < length s → scalarAt s i ≡ Scalar v w → validId s ≡ not (refused v (eqb i 0 || eqb (i + w) (length s))) && validRestText false (decode (drop (i + w) s))
-at-scalar {s} {i} {v} {w} p h e =
-    p .same
+at-scalar : (s : List ℕ) (i : ℕ) {v w : ℕ} → i < length s → scalarAt s i ≡ Scalar v w → idFrom s i ≡ not (refused v (eqb i 0 || eqb (i + w) (length s))) && idFrom s (i + w)
+at-scalar s i {v} {w} h e =
+    let z : eqb (i + w) 0 ≡ false = ne-eqb (i + w) 0 (λ q. omega (arith, width-at s i e .0)) in
+    rest-is (eqb i 0) (decode (drop i s))
     ∙ ap (validRestText (eqb i 0)) (decode-at s i h e)
     ∙ rest-before (eqb i 0) v (decode (drop (i + w) s))
-    ∙ rw (left-at s (i + w) (ends-at s i h e))
+    ∙ rw (left-at s (i + w) (ends-at s i h e), z, rest-is false (decode (drop (i + w) s)))
 
-from-scalar : {s : List ℕ} {i v w : ℕ} → ValidFrom s i → i < length s → scalarAt s i ≡ Scalar v w → refused v (eqb i 0 || eqb (i + w) (length s)) ≡ false → ValidFrom s (i + w)
-from-scalar {s} {i} {v} {w} p h e r =
-    let z : eqb (i + w) 0 ≡ false = ne-eqb (i + w) 0 (λ q. omega (arith, width-at s i e .0)) in
-    record { same = at-scalar p h e ∙ rw (r, z) }
+over-scalar : (s : List ℕ) (i : ℕ) {v w : ℕ} → i < length s → scalarAt s i ≡ Scalar v w → refused v (eqb i 0 || eqb (i + w) (length s)) ≡ false → idFrom s i ≡ idFrom s (i + w)
+over-scalar s i h e r = at-scalar s i h e ∙ rw r
 
-visible-kept : (v : ℕ) (edge : Bool) → visible v ≡ true → refused v edge ≡ false
-visible-kept v edge e = rw (visible-no-control v e, visible-no-space v e) (and-false edge)
+-- a step over a run of printable bytes, none of them at an edge
+over-printable : (s : List ℕ) (j : ℕ) → 0 < j → j + 1 < length s → printableAt s j ≡ true → idFrom s j ≡ idFrom s (j + 1)
+over-printable s j l h e =
+    let b = within-true 0x20 0x7E (getD s j 0) e in
+    let f : eqb j 0 ≡ false = ne-eqb j 0 (λ q. omega arith) in
+    let g : eqb (j + 1) (length s) ≡ false = ne-eqb (j + 1) (length s) (λ q. omega arith) in
+    over-scalar s j (omega arith) (ascii-scalar s j (omega arith)) (rw (printable-no-control (getD s j 0) e, f, g))
 
-from-between : {s : List ℕ} {i j : ℕ} → VisibleBetween s i j → ValidFrom s i → ValidFrom s j
-from-between {s} = along s (ValidFrom s) (λ k h e q. from-scalar q h (visible-scalar s k e) (visible-kept (getD s k 0) (eqb k 0 || eqb (k + 1) (length s)) e))
+pub id-run : (s : List ℕ) (i k : ℕ) → (i ≡ 0 → ⊥) → Run (printableAt s) i k (length s - 1) → (k ≡ 0 → ⊥) → Stepped (idFrom s) (length s) i k
+id-run s i k n p d =
+    let h = p .inside in
+    moved-along (idFrom s) (length s) i (printableAt s) k (omega arith) (p .all) d
+    (λ j a l e. over-printable s j (omega arith) (omega arith) e)
 
-pub valid-start : {s : List ℕ} {i : ℕ} → VisibleBetween s 0 i → ValidFrom s i
-valid-start {s} b = from-between b (record { same = valid-text (decode s) })
+-- a step over one visible byte
+pub id-visible : (s : List ℕ) (i : ℕ) (b : Bool) → i < length s → b ≡ visible (getD s i 0) → b ≡ true → Stepped (idFrom s) (length s) i 1
+id-visible s i b h e t =
+    let v = sym e ∙ t in
+    let r = within-true 0x21 0x7E (getD s i 0) v in
+    let c : control (getD s i 0) ≡ false = printable-no-control (getD s i 0) (within-in 0x20 0x7E (getD s i 0) (omega arith) (omega arith)) in
+    let o = over-scalar s i h (ascii-scalar s i (omega arith)) (rw (c, visible-no-space (getD s i 0) v) (and-false (eqb i 0 || eqb (i + 1) (length s)))) in
+    moved (idFrom s) (length s) i 1 (omega arith) (omega arith) o
 
--- x is what `utf8_scalar` found at i; c and b say whether the scalar v is a control, and white space
-pub valid-step : {s : List ℕ} {i j v w : ℕ} (x : Decoded) (c b : Bool) → ValidFrom s i → i < length s → x ≡ scalarAt s i → x ≡ Scalar v w → c ≡ control v → b ≡ whiteSpace v → c || ((eqb i 0 || eqb (i + w) (length s)) && b) ≡ false → VisibleBetween s (i + w) j → ValidFrom s j
-valid-step {s} {i} {j} {v} {w} x c b p h e f ec eb r q =
-    from-between q (from-scalar p h (sym e ∙ f) (rw (ec, eb) at r))
+-- a step over one scalar: x is what `utf8_scalar` found at i; c and b say whether the scalar v is a control, and white space
+module _ (s : List ℕ) (i : ℕ) (x : Decoded) (h : i < length s) (e : x ≡ scalarAt s i) where
+  pub id-malformed : x ≡ Malformed → Stepped (idFrom s) (length s) i 0
+  id-malformed f =
+      stopped (idFrom s) (length s) i (omega arith)
+      (rest-is (eqb i 0) (decode (drop i s)) ∙ ap (validRestText (eqb i 0)) (decode-malformed s i h (sym e ∙ f)))
 
-pub valid-refused : {s : List ℕ} {i v w : ℕ} (x : Decoded) (c b : Bool) → ValidFrom s i → i < length s → x ≡ scalarAt s i → x ≡ Scalar v w → c ≡ control v → b ≡ whiteSpace v → c || ((eqb i 0 || eqb (i + w) (length s)) && b) ≡ true → false ≡ validId s
-valid-refused {s} {i} {v} {w} x c b p h e f ec eb r =
-    let t : refused v (eqb i 0 || eqb (i + w) (length s)) ≡ true = rw (ec, eb) at r in
-    sym (at-scalar p h (sym e ∙ f) ∙ rw t)
+  refuse : {v w : ℕ} → x ≡ Scalar v w → refused v (eqb i 0 || eqb (i + w) (length s)) ≡ true → Stepped (idFrom s) (length s) i 0
+  refuse f r = stopped (idFrom s) (length s) i (omega arith) (at-scalar s i h (sym e ∙ f) ∙ rw r)
 
-pub valid-stop : {s : List ℕ} {i : ℕ} (x : Decoded) → ValidFrom s i → i < length s → x ≡ scalarAt s i → x ≡ Malformed → false ≡ validId s
-valid-stop {s} {i} x p h e f = sym (p .same ∙ ap (validRestText (eqb i 0)) (decode-malformed s i h (sym e ∙ f)))
+  keep : {v w : ℕ} → x ≡ Scalar v w → refused v (eqb i 0 || eqb (i + w) (length s)) ≡ false → Stepped (idFrom s) (length s) i w
+  keep {v} {w} f r =
+      let g = sym e ∙ f in
+      moved (idFrom s) (length s) i w (ends-at s i h g) (width-at s i g .0) (over-scalar s i h g r)
 
-pub valid-end : {s : List ℕ} {i : ℕ} → ValidFrom s i → length s ≤ i → not (eqb i 0) ≡ validId s
-valid-end {s} {i} p h = sym (p .same ∙ ap (validRestText (eqb i 0)) (decode-end s i h))
+  pub id-control : {v w : ℕ} (c : Bool) → x ≡ Scalar v w → c ≡ control v → c ≡ true → Stepped (idFrom s) (length s) i 0
+  id-control c f ec t = refuse f (rw (← ec, t))
 
-pub ruleset valid-laws = (valid-start, valid-step, valid-refused, valid-stop, valid-end)
+  pub id-space : {v w : ℕ} (c b : Bool) → x ≡ Scalar v w → c ≡ control v → c ≡ false → eqb i 0 || eqb (i + w) (length s) ≡ true → b ≡ whiteSpace v → b ≡ true → Stepped (idFrom s) (length s) i 0
+  id-space c b f ec n edge eb t = refuse f (rw (← ec, n, edge, ← eb, t))
+
+  pub id-edge : {v w : ℕ} (c b : Bool) → x ≡ Scalar v w → c ≡ control v → c ≡ false → eqb i 0 || eqb (i + w) (length s) ≡ true → b ≡ whiteSpace v → b ≡ false → Stepped (idFrom s) (length s) i w
+  id-edge c b f ec n edge eb t = keep f (rw (← ec, n, edge, ← eb, t))
+
+  pub id-inner : {v w : ℕ} (c : Bool) → x ≡ Scalar v w → c ≡ control v → c ≡ false → eqb i 0 || eqb (i + w) (length s) ≡ false → Stepped (idFrom s) (length s) i w
+  id-inner c f ec n inner = keep f (rw (← ec, n, inner))
+
+pub ruleset id-laws = (id-run, id-visible, id-malformed, id-control, id-space, id-edge, id-inner)
+
+pub id-start : (s : List ℕ) → Kept (validId s) (idFrom s) (length s) 0
+id-start s = record { inside = omega arith; same = refl }
+
+pub id-end : (s : List ℕ) (i : ℕ) → Kept (validId s) (idFrom s) (length s) i → length s ≤ i → not (eqb i 0) ≡ validId s
+id-end s i p h =
+    sym (p .same ∙ rest-is (eqb i 0) (decode (drop i s)) ∙ ap (validRestText (eqb i 0)) (decode-end s i h))
 
 -- a valid identity is UTF-8
 utf8-of : (x : Scalars) → validText x ≡ true → isSome x ≡ true

@@ -1,14 +1,15 @@
 // The text of an identity: UTF-8, white space and controls, the part of a text that it names, the order by byte.
 ghost use mathlib.Core.Path.{_≡_};
-ghost use Prim.Native.Nat.{_+_, _<_, _≤_};
+ghost use Prim.Native.Nat.{_+_, _-_, _<_, _≤_};
 ghost use lib.ListN.{length, getD};
-ghost use mathlib.Core.Bool.{cond};
-ghost use Rattle.identity.specs.Utf8.{allowed, follows, checked, twoBytes, threeBytes, fourBytes, scalarAt, utf8};
+ghost use mathlib.Core.Bool.{_&&_, cond};
+ghost use lib.Dec.{leb};
+ghost use Rattle.identity.specs.Utf8.{allowed, follows, checked, valueOfTwo, valueOfThree, valueOfFour, twoBytes, threeBytes, fourBytes, scalarAt, utf8};
 ghost use Rattle.identity.specs.Unicode.{control, whiteSpace};
 ghost use Rattle.identity.specs.Identity.{validId};
 ghost use Rattle.identity.specs.Order.{compared, sign};
 ghost use Rattle.identity.specs.Text.{partAt, partPointer, namedText, placeInside, identityText, identityPointer};
-ghost use Rattle.identity.specs.Scan.{visible, allVisible, VisibleBetween};
+ghost use Rattle.identity.specs.Scan.{widthOf, ascii, printable, visible, every, asciiAt, printableAt, sameAt, Run, Stepped, utf8From, idFrom, Tied};
 
 // The place of an identity: which lent text, where it starts, how long it is.
 pub struct IdentityPlace {
@@ -55,11 +56,37 @@ fn byte_at(text: &[u8], at: usize) -> u8
     0
 }
 
-// The scalar, where its following bytes are such, it is not below `low`, and it is allowed.
+// The values of two, three and four bytes.
+fn value_of_two(a: u8, b: u8) -> u32
+    ensures { λ r. ⌜ r ≡ valueOfTwo a b ⌝ }
+{
+    wide(a) % 32 * 64 + wide(b) % 64
+}
+
+fn value_of_three(a: u8, b: u8, c: u8) -> u32
+    ensures { λ r. ⌜ r ≡ valueOfThree a b c ⌝ }
+{
+    wide(a) % 16 * 4096 + wide(b) % 64 * 64 + wide(c) % 64
+}
+
+fn value_of_four(a: u8, b: u8, c: u8, d: u8) -> u32
+    ensures { λ r. ⌜ r ≡ valueOfFour a b c d ⌝ }
+{
+    wide(a) % 8 * 262144 + wide(b) % 64 * 4096 + wide(c) % 64 * 64 + wide(d) % 64
+}
+
+// Whether a value has its following bytes, is not below the first scalar of its length, and is allowed.
+fn is_scalar(following: bool, low: u32, value: u32) -> bool
+    ensures { λ r. ⌜ r ≡ (following && (leb low value && allowed value)) ⌝ }
+{
+    following & ((low <= value) & allowed(value))
+}
+
+// The scalar, where it is one.
 fn checked(following: bool, low: u32, value: u32, width: usize) -> Decoded
     ensures { λ r. ⌜ r ≡ checked following low value width ⌝ }
 {
-    if following & ((low <= value) & allowed(value)) {
+    if is_scalar(following, low, value) {
         return Decoded::Scalar(value, width);
     }
     Decoded::Malformed
@@ -69,19 +96,14 @@ fn checked(following: bool, low: u32, value: u32, width: usize) -> Decoded
 fn two_bytes(a: u8, b: u8) -> Decoded
     ensures { λ r. ⌜ r ≡ twoBytes a b ⌝ }
 {
-    checked(follows(b), 0x80, wide(a) % 32 * 64 + wide(b) % 64, 2)
+    checked(follows(b), 0x80, value_of_two(a, b), 2)
 }
 
 // The scalar that three bytes encode.
 fn three_bytes(a: u8, b: u8, c: u8) -> Decoded
     ensures { λ r. ⌜ r ≡ threeBytes a b c ⌝ }
 {
-    checked(
-        follows(b) & follows(c),
-        0x800,
-        wide(a) % 16 * 4096 + wide(b) % 64 * 64 + wide(c) % 64,
-        3,
-    )
+    checked(follows(b) & follows(c), 0x800, value_of_three(a, b, c), 3)
 }
 
 // The scalar that four bytes encode.
@@ -91,7 +113,7 @@ fn four_bytes(a: u8, b: u8, c: u8, d: u8) -> Decoded
     checked(
         follows(b) & (follows(c) & follows(d)),
         0x10000,
-        wide(a) % 8 * 262144 + wide(b) % 64 * 4096 + wide(c) % 64 * 64 + wide(d) % 64,
+        value_of_four(a, b, c, d),
         4,
     )
 }
@@ -148,6 +170,19 @@ fn unicode_whitespace(value: u32) -> bool
         | (value == 0x3000)
 }
 
+fn ascii(b: u8) -> bool
+    ensures { λ r. ⌜ r ≡ ascii b ⌝ }
+{
+    b < 0x80
+}
+
+// ASCII without controls: a scalar by itself, white space where it is a blank.
+fn printable(b: u8) -> bool
+    ensures { λ r. ⌜ r ≡ printable b ⌝ }
+{
+    (0x20 <= b) & (b <= 0x7E)
+}
+
 // A visible ASCII character: a scalar by itself, no control and no white space.
 fn visible(b: u8) -> bool
     ensures { λ r. ⌜ r ≡ visible b ⌝ }
@@ -155,81 +190,183 @@ fn visible(b: u8) -> bool
     (0x21 <= b) & (b <= 0x7E)
 }
 
-// Whether the 16 bytes from `at` are visible: no branch among them, so that they are tested at once.
-fn visible_block(text: &[u8], at: usize) -> bool
+// Whether the 16 bytes from `at` are ASCII: no branch among them, so that they are tested at once.
+fn ascii_block(text: &[u8], at: usize) -> bool
     requires { ⌜ at + 16 ≤ length (now text) ⌝ }
-    ensures { λ r. ⌜ r ≡ allVisible (now (text .entry)) at 16 ⌝ }
+    ensures { λ r. ⌜ r ≡ every (asciiAt (now (text .entry))) at 16 ⌝ }
 {
     let mut all = true;
     let mut k = 0;
     while k < 16 {
-        all = all & visible(text[at + k]);
+        all = all & ascii(text[at + k]);
         k += 1;
     }
     all
 }
 
-// A place up to which all is visible from `at` on, by blocks of 16.
-fn past_blocks(text: &[u8], at: usize) -> usize
-    requires { ⌜ at ≤ length (now text) ⌝ }
-    ensures { λ r. ⌜ VisibleBetween (now (text .entry)) at r ⌝ }
+// The same for ASCII without controls.
+fn printable_block(text: &[u8], at: usize) -> bool
+    requires { ⌜ at + 16 ≤ length (now text) ⌝ }
+    ensures { λ r. ⌜ r ≡ every (printableAt (now (text .entry))) at 16 ⌝ }
 {
-    let mut i = at;
-    while i + 16 <= text.len() {
-        if !visible_block(text, i) {
-            return i;
-        }
-        i += 16;
+    let mut all = true;
+    let mut k = 0;
+    while k < 16 {
+        all = all & printable(text[at + k]);
+        k += 1;
     }
-    i
+    all
 }
 
-// The same byte by byte, after the blocks.
-fn past_visible(text: &[u8], at: usize) -> usize
-    requires { ⌜ at ≤ length (now text) ⌝ }
-    ensures { λ r. ⌜ VisibleBetween (now (text .entry)) at r ⌝ }
+// How many bytes from `at` on are ASCII, by blocks of 16; 0 where the first is not.
+fn ascii_blocks(text: &[u8], at: usize) -> usize
+    requires { ⌜ at < length (now text) ⌝ }
+    ensures { λ r. ⌜ Run (asciiAt (now (text .entry))) at r (length (now (text .entry))) ⌝ }
 {
-    let mut i = past_blocks(text, at);
-    while i < text.len() {
-        if !visible(text[i]) {
-            return i;
-        }
-        i += 1;
+    if !ascii(text[at]) {
+        return 0;
     }
-    i
+    let left = text.len() - at;
+    let mut k = 0;
+    while k + 16 <= left {
+        if !ascii_block(text, at + k) {
+            return k;
+        }
+        k += 16;
+    }
+    k
+}
+
+// How many bytes from `at` on are printable, by blocks of 16, none of them the last.
+fn printable_blocks(text: &[u8], at: usize) -> usize
+    requires { ⌜ at < length (now text) ⌝ }
+    ensures { λ r. ⌜ Run (printableAt (now (text .entry))) at r (length (now (text .entry)) - 1) ⌝ }
+{
+    let left = text.len() - at;
+    let mut k = 0;
+    while k + 16 < left {
+        if !printable_block(text, at + k) {
+            return k;
+        }
+        k += 16;
+    }
+    k
+}
+
+// The width, where the value is a scalar, and 0 elsewhere.
+fn width_if(following: bool, low: u32, value: u32, width: usize) -> usize
+    ensures { λ r. ⌜ r ≡ widthOf (checked following low value width) ⌝ }
+{
+    if is_scalar(following, low, value) {
+        return width;
+    }
+    0
+}
+
+// How many bytes the scalar at `at` takes; 0 where there is none. `utf8_scalar` without the value: an answer in a register is twice as fast.
+fn scalar_width(text: &[u8], at: usize) -> usize
+    requires { ⌜ at < length (now text) ⌝ }
+    ensures { λ r. ⌜ r ≡ widthOf (scalarAt (now (text .entry)) at) ⌝ }
+{
+    let a = text[at];
+    if a < 0x80 {
+        return 1;
+    }
+    if a < 0xC2 {
+        return 0;
+    }
+    let b = byte_at(text, at + 1);
+    if a < 0xE0 {
+        return width_if(follows(b), 0x80, value_of_two(a, b), 2);
+    }
+    let c = byte_at(text, at + 2);
+    if a < 0xF0 {
+        return width_if(follows(b) & follows(c), 0x800, value_of_three(a, b, c), 3);
+    }
+    if a < 0xF5 {
+        let d = byte_at(text, at + 3);
+        let following = follows(b) & (follows(c) & follows(d));
+        return width_if(following, 0x10000, value_of_four(a, b, c, d), 4);
+    }
+    0
+}
+
+// How many bytes from `at` on are whole scalars: blocks of ASCII, or one scalar; 0 where there is none.
+fn utf8_step(text: &[u8], at: usize) -> usize
+    requires { ⌜ at < length (now text) ⌝ }
+    ensures { λ r. ⌜ Stepped (utf8From (now (text .entry))) (length (now (text .entry))) at r ⌝ }
+{
+    let blocks = ascii_blocks(text, at);
+    if blocks != 0 {
+        return blocks;
+    }
+    scalar_width(text, at)
 }
 
 // Whether a text is UTF-8.
 pub fn is_utf8(text: &[u8]) -> bool
     ensures { λ r. ⌜ r ≡ utf8 (now (text .entry)) ⌝ }
 {
-    let mut at = past_visible(text, 0);
+    let mut at = 0;
     while at < text.len() {
-        let found = utf8_scalar(text, at);
-        let Decoded::Scalar(_, width) = found else {
+        let width = utf8_step(text, at);
+        if width == 0 {
             return false;
-        };
-        at = past_visible(text, at + width);
+        }
+        at += width;
     }
     true
+}
+
+// How many bytes the scalar at `at` takes in an identity; 0 where it may not stand there.
+fn id_scalar(text: &[u8], at: usize) -> usize
+    requires { ⌜ at < length (now text) ⌝ }
+    ensures { λ r. ⌜ Stepped (idFrom (now (text .entry))) (length (now (text .entry))) at r ⌝ }
+{
+    let found = utf8_scalar(text, at);
+    let Decoded::Scalar(value, width) = found else {
+        return 0;
+    };
+    if unicode_control(value) {
+        return 0;
+    }
+    if (at == 0) | (at + width == text.len()) {
+        if unicode_whitespace(value) {
+            return 0;
+        }
+    }
+    width
+}
+
+// How many bytes from `at` on may stand there in an identity: blocks of printable ASCII inside the text, or one scalar; 0 where none may.
+fn id_step(text: &[u8], at: usize) -> usize
+    requires { ⌜ at < length (now text) ⌝ }
+    ensures { λ r. ⌜ Stepped (idFrom (now (text .entry))) (length (now (text .entry))) at r ⌝ }
+{
+    if !visible(text[at]) {
+        return id_scalar(text, at);
+    }
+    if at == 0 {
+        return 1;
+    }
+    let blocks = printable_blocks(text, at);
+    if blocks != 0 {
+        return blocks;
+    }
+    1
 }
 
 // Whether a text is a valid identity: UTF-8, not empty, no control, white space neither first nor last.
 pub fn valid_id(text: &[u8]) -> bool
     ensures { λ r. ⌜ r ≡ validId (now (text .entry)) ⌝ }
 {
-    let mut at = past_visible(text, 0);
+    let mut at = 0;
     while at < text.len() {
-        let found = utf8_scalar(text, at);
-        let Decoded::Scalar(value, width) = found else {
-            return false;
-        };
-        let next = at + width;
-        let edge = (at == 0) | (next == text.len());
-        if unicode_control(value) | (edge & unicode_whitespace(value)) {
+        let width = id_step(text, at);
+        if width == 0 {
             return false;
         }
-        at = past_visible(text, next);
+        at += width;
     }
     at != 0
 }
@@ -279,10 +416,39 @@ pub enum ByteOrder {
     Greater,
 }
 
+// Whether 16 bytes of both from `at` are the same: no branch among them.
+fn same_block<'a>(left: &'a [u8], right: &'a [u8], at: usize) -> bool
+    requires { ⌜ at + 16 ≤ length (now left) ⌝ }
+    requires { ⌜ at + 16 ≤ length (now right) ⌝ }
+    ensures { λ r. ⌜ r ≡ every (sameAt (now (left .entry)) (now (right .entry))) at 16 ⌝ }
+{
+    let mut same = true;
+    let mut k = 0;
+    while k < 16 {
+        same = same & (left[at + k] == right[at + k]);
+        k += 1;
+    }
+    same
+}
+
+// A place up to which both are the same, by blocks of 16.
+fn past_same<'a>(left: &'a [u8], right: &'a [u8]) -> usize
+    ensures { λ r. ⌜ Tied (now (left .entry)) (now (right .entry)) r ⌝ }
+{
+    let mut i = 0;
+    while (i + 16 <= left.len()) & (i + 16 <= right.len()) {
+        if !same_block(left, right, i) {
+            return i;
+        }
+        i += 16;
+    }
+    i
+}
+
 fn compare_bytes<'a>(left: &'a [u8], right: &'a [u8]) -> ByteOrder
     ensures { λ r. ⌜ r ≡ compared (now (left .entry)) (now (right .entry)) ⌝ }
 {
-    let mut i = 0;
+    let mut i = past_same(left, right);
     while i < left.len() {
         if right.len() <= i {
             return ByteOrder::Greater;

@@ -1,8 +1,9 @@
--- `identity::compare_bytes` meets its contract. The loop's invariant: the first i bytes are the same, so the rest decides.
+-- `identity::compare_bytes` meets its contract. The loop's invariant: the first i bytes are the same, so the rest decides. Assumes nothing.
 use Prim.Native.Nat.{_-_}
 use lib.ListN.{length}
 use borrow.Author.Needs.{needs}
-use Rattle.identity.proofs.Order.{Tied, tied-start, order-laws}
+use Rattle.identity.specs.Scan.{Tied}
+use Rattle.identity.proofs.Order.{order-laws}
 use Rattle.identity.proofs.compare_bytes.Statement.{statement}
 use Rattle.identity.proofs.compare_bytes.Tie as tie
 
@@ -18,7 +19,8 @@ compare-bytes-spec =
     (tie.spec
     Inv-loop
     μ-loop
-    (λ c. tied-start _ _)
+    (λ c κs. search needs)
+    (λ c. search needs)
     (λ c. search order-laws)
     (λ c. search needs)
     (λ c. search needs)

@@ -1,4 +1,4 @@
--- `identity::four_bytes` meets its contract.
+-- `identity::four_bytes` meets its contract. Assumes nothing.
 use borrow.Author.Needs.{needs}
 use Rattle.identity.proofs.four_bytes.Statement.{statement}
 use Rattle.identity.proofs.four_bytes.Tie as tie
@@ -11,14 +11,5 @@ four-bytes-spec =
     (λ c κs. search needs)
     (λ c κs. search needs)
     (λ c κs. search needs)
-    (λ c. search needs)
     (λ c κs. search needs)
-    (λ c. search needs)
-    (λ c. search needs)
-    (λ c κs. search needs)
-    (λ c. search needs)
-    (λ c. search needs)
-    (λ c κs. search needs)
-    (λ c. search needs)
-    (λ c κs. search needs)
-    (λ c. simp (c .checked .ensures, c .before .wide4 .ensures, c .before .before .wide3 .ensures, c .before .before .before .wide2 .ensures, c .before .before .before .before .wide .ensures, c .before .before .before .before .before .follows3 .ensures, c .before .before .before .before .before .before .follows2 .ensures, c .before .before .before .before .before .before .before .follows .ensures)))
+    (λ c. cc))

@@ -1,14 +1,16 @@
--- `identity::is_utf8` meets its contract. The loop's invariant: the text is UTF-8 exactly where its rest is.
-use Prim.Native.Nat.{_≤_, _-_}
+-- `identity::is_utf8` meets its contract. The loop's invariant: the text is UTF-8 exactly where its rest is. Assumes nothing.
+use Prim.Native.Nat.{_-_}
 use lib.ListN.{length}
 use borrow.Author.Needs.{needs}
-use Rattle.identity.proofs.Utf8.{Utf8From, utf8-laws}
-use Rattle.identity.proofs.Scalar.{next-fits, next-inside, next-less}
+use Rattle.identity.specs.Utf8.{utf8}
+use Rattle.identity.specs.Scan.{utf8From}
+use Rattle.identity.proofs.Steps.{Kept, step-laws}
+use Rattle.identity.proofs.Utf8.{utf8-start, utf8-end}
 use Rattle.identity.proofs.is_utf8.Statement.{statement}
 use Rattle.identity.proofs.is_utf8.Tie as tie
 
 abbrev Inv-loop : tie.InvT-loop
-Inv-loop text at₀ at = (at ≤ length text) × Utf8From text at
+Inv-loop text at₀ at = Kept (utf8 text) (utf8From text) (length text) at
 
 abbrev μ-loop : tie.MeasureT-loop
 μ-loop text at₀ at = length text - at
@@ -19,14 +21,10 @@ is-utf8-spec =
     (tie.spec
     Inv-loop
     μ-loop
+    (λ c. utf8-start _)
     (λ c κs. search needs)
-    (λ c. (search needs, search utf8-laws))
-    (λ c κs. search needs)
+    (λ c. search step-laws)
     (λ c. search needs)
-    (λ c. search needs)
-    (λ c. search utf8-laws)
-    (λ c. search (next-fits, needs))
-    (λ c κs. search next-inside)
-    (λ c. search next-less)
-    (λ c. (search needs, search utf8-laws))
-    (λ c. search utf8-laws))
+    (λ c. search step-laws)
+    (λ c. search step-laws)
+    (λ c. search utf8-end))

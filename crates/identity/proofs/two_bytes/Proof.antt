@@ -1,4 +1,4 @@
--- `identity::two_bytes` meets its contract.
+-- `identity::two_bytes` meets its contract. Assumes nothing.
 use borrow.Author.Needs.{needs}
 use Rattle.identity.proofs.two_bytes.Statement.{statement}
 use Rattle.identity.proofs.two_bytes.Tie as tie
@@ -9,8 +9,5 @@ two-bytes-spec =
     (tie.spec
     (λ c κs. search needs)
     (λ c κs. search needs)
-    (λ c. search needs)
     (λ c κs. search needs)
-    (λ c. search needs)
-    (λ c κs. search needs)
-    (λ c. simp (c .checked .ensures, c .before .wide2 .ensures, c .before .before .wide .ensures, c .before .before .before .follows .ensures)))
+    (λ c. cc))

@@ -1,14 +1,16 @@
--- `identity::valid_id` meets its contract. The loop's invariant: the text is a valid identity exactly where its rest may end one.
-use Prim.Native.Nat.{_≤_, _-_}
+-- `identity::valid_id` meets its contract. The loop's invariant: the text is a valid identity exactly where its rest may end one. Assumes nothing.
+use Prim.Native.Nat.{_-_}
 use lib.ListN.{length}
 use borrow.Author.Needs.{needs}
-use Rattle.identity.proofs.Valid.{ValidFrom, valid-laws}
-use Rattle.identity.proofs.Scalar.{next-fits, next-inside, next-less}
+use Rattle.identity.specs.Identity.{validId}
+use Rattle.identity.specs.Scan.{idFrom}
+use Rattle.identity.proofs.Steps.{Kept, step-laws}
+use Rattle.identity.proofs.Valid.{id-start, id-end}
 use Rattle.identity.proofs.valid_id.Statement.{statement}
 use Rattle.identity.proofs.valid_id.Tie as tie
 
 abbrev Inv-loop : tie.InvT-loop
-Inv-loop text at₀ at = (at ≤ length text) × ValidFrom text at
+Inv-loop text at₀ at = Kept (validId text) (idFrom text) (length text) at
 
 abbrev μ-loop : tie.MeasureT-loop
 μ-loop text at₀ at = length text - at
@@ -19,17 +21,10 @@ valid-id-spec =
     (tie.spec
     Inv-loop
     μ-loop
+    (λ c. id-start _)
     (λ c κs. search needs)
-    (λ c. (search needs, search valid-laws))
-    (λ c κs. search needs)
+    (λ c. search step-laws)
     (λ c. search needs)
-    (λ c. search needs)
-    (λ c. search valid-laws)
-    (λ c. search (next-fits, needs))
-    (λ c κs. search needs)
-    (λ c κs. search needs)
-    (λ c. search valid-laws)
-    (λ c κs. search next-inside)
-    (λ c. search next-less)
-    (λ c. (search needs, search valid-laws))
-    (λ c. search valid-laws))
+    (λ c. search step-laws)
+    (λ c. search step-laws)
+    (λ c. search id-end))

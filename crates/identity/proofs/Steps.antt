@@ -1,0 +1,74 @@
+-- Runs of places that pass a test, and the steps of a scan. Assumes nothing.
+use Prim.Native.Nat.{ℕ, zero, suc, _+_, _-_, _<_, _≤_}
+use mathlib.Core.Bool.{Bool, true, false, _&&_}
+use mathlib.Core.Path.{_≡_, refl, _∙_, sym}
+use native.Mathlib.Nat.{add-zero, add-suc}
+use native.Mathlib.Numerals.{add-one}
+use native.Mathlib.Omega.{arith}
+use Rattle.identity.specs.Scan.{every, Run, Stepped}
+use Rattle.identity.proofs.Tests.{both, and-true, and-assoc}
+
+every-add : (test : ℕ → Bool) (o i k : ℕ) → every test o (i + k) ≡ every test o i && every test (o + i) k
+unfolding every
+every-add test o i zero = rw add-zero (sym (and-true (every test o i)))
+every-add test o i (suc k) =
+    let e : o + (i + k) ≡ (o + i) + k = omega arith in
+    rw (add-suc, every-add test o i k, e) (and-assoc (every test o i) (every test (o + i) k) _)
+
+-- a block's own loop
+pub every-none : (test : ℕ → Bool) (o : ℕ) → true ≡ every test o 0
+unfolding every
+every-none test o = refl
+
+pub every-one : (test : ℕ → Bool) (o k : ℕ) (a b : Bool) → a ≡ every test o k → b ≡ test (o + k) → a && b ≡ every test o (k + 1)
+unfolding every
+every-one test o k a b e f = rw (add-one, e, f)
+
+-- the loop over blocks
+pub run-none : (test : ℕ → Bool) (o end : ℕ) → o ≤ end → Run test o 0 end
+unfolding every
+run-none test o end h = record { inside = omega arith; all = refl }
+
+pub run-block : {test : ℕ → Bool} {o k end : ℕ} (b : Bool) → Run test o k end → b ≡ every test (o + k) 16 → b ≡ true → o + (k + 16) ≤ end → Run test o (k + 16) end
+run-block {test} {o} {k} b p e t h = record { inside = h; all = rw (every-add test o k 16, p .all) (sym e ∙ t) }
+
+-- what passes over each place of a run passes over all of them
+pub along : (test : ℕ → Bool) (P : ℕ → Type 0) (o k : ℕ) → ((j : ℕ) → o ≤ j → j < o + k → test j ≡ true → P j → P (j + 1)) → every test o k ≡ true → P o → P (o + k)
+unfolding every
+along test P o zero f e p = rw add-zero p
+along test P o (suc k) f e p =
+    let b = both (every test o k) (test (o + k)) e in
+    let n : (o + k) + 1 ≡ o + suc k = omega arith in
+    rw n at (f (o + k) (omega arith) (omega arith) (b .1) (along test P o k (λ j l h. f j l (omega arith)) (b .0) p))
+
+-- how a step is made
+module _ (good : ℕ → Bool) (end i : ℕ) where
+  pub stopped : i ≤ end → good i ≡ false → Stepped good end i 0
+  stopped h e = record { inside = omega arith; stop = λ _. e; on = λ n. absurd (n refl) }
+
+  pub moved : (w : ℕ) → i + w ≤ end → 1 ≤ w → good i ≡ good (i + w) → Stepped good end i w
+  moved w h l e = record { inside = h; stop = λ z. absurd (none z); on = λ _. e }
+    where
+      none : w ≡ 0 → ⊥
+      none z = omega arith
+
+  pub moved-along : (test : ℕ → Bool) (k : ℕ) → i + k ≤ end → every test i k ≡ true → (k ≡ 0 → ⊥) → ((j : ℕ) → i ≤ j → j < i + k → test j ≡ true → good j ≡ good (j + 1)) → Stepped good end i k
+  moved-along test k h e d f =
+      moved k h (omega arith) (along test (λ j. good i ≡ good j) i k (λ j a b t p. p ∙ f j a b t) e refl)
+
+-- what a scan keeps: the whole is good exactly where the rest from i is
+pub record Kept (whole : Bool) (good : ℕ → Bool) (end i : ℕ) : Type 0 where
+  pub inside : i ≤ end
+  pub same : whole ≡ good i
+
+module _ {whole : Bool} {good : ℕ → Bool} {end i w : ℕ} (p : Kept whole good end i) (q : Stepped good end i w) where
+  pub kept-on : (w ≡ 0 → ⊥) → Kept whole good end (i + w)
+  kept-on d = record { inside = q .inside; same = p .same ∙ q .on d }
+
+  pub kept-stop : w ≡ 0 → false ≡ whole
+  kept-stop z = sym (p .same ∙ q .stop z)
+
+  pub kept-less : (w ≡ 0 → ⊥) → end - (i + w) < end - i
+  kept-less d = let h = q .inside in omega arith
+
+pub ruleset step-laws = (kept-on, kept-stop, kept-less)

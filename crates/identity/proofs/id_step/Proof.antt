@@ -1,0 +1,19 @@
+-- `identity::id_step` meets its contract. Each answer is a law of proofs/Valid.antt. Assumes nothing.
+use borrow.Author.Needs.{needs}
+use borrow.Author.Tests.{not-false}
+use Rattle.identity.proofs.Valid.{id-laws}
+use Rattle.identity.proofs.id_step.Statement.{statement}
+use Rattle.identity.proofs.id_step.Tie as tie
+
+pub id-step-spec : {M : Type 1} → statement M
+id-step-spec =
+    tie.close
+    (tie.spec
+    (λ c. search needs)
+    (λ c κs. search needs)
+    (λ c κs. search needs)
+    (λ c. search needs)
+    (λ c. search (id-laws, not-false))
+    (λ c κs. search needs)
+    (λ c. search id-laws)
+    (λ c. search (id-laws, not-false)))
