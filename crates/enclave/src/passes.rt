@@ -21,7 +21,7 @@ use row_checks::reactions;
 use row_checks::reactors;
 use schema::TableStarts;
 use schema::index::ReactorIndex;
-use schema::read;
+use schema::parts;
 use schema::rows::EnclaveImage;
 
 // The tables whose length is checked: 2 to 7, 23 and 24.
@@ -58,8 +58,7 @@ fn check_root(s: &TableStarts) -> Outcome
 fn check_enclave_id<'a>(p: &'a [u8], batch: &'a [u8], house: &'a [u8], n: usize) -> Outcome
     ensures { λ r. ⌜ Decides (enclaveIdChecks (image (now (p .entry)) (now (batch .entry)) (now (house .entry)) [] n) 0) r ⌝ }
 {
-    let enclave = read::enclave_at(p, n);
-    identities::validate_id(batch, house, kind::ENCLAVE, 0, enclave.enclave_id)
+    identities::validate_id(batch, house, kind::ENCLAVE, 0, parts::enclave_id_at(p, n))
 }
 
 // How many items pass k has.

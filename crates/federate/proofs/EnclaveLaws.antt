@@ -9,8 +9,7 @@ use native.Mathlib.Omega.{arith}
 use lib.ListN.{getD}
 use borrow.Author.Tests.{eq-eqb, ne-eqb}
 use Rattle.identity.specs.Text.{identityText}
-use Rattle.schema.specs.declared.rows.EnclaveImage.{EnclaveImage}
-use Rattle.schema.specs.Rows.{enclaveAt}
+use Rattle.identity.specs.declared.IdentityPlace.{IdentityPlace}
 use Rattle.checks.specs.Identities.{idOrderChecks}
 use Rattle.answers.specs.declared.Refusal.{Refusal}
 use Rattle.answers.specs.declared.Outcome.{Outcome}
@@ -71,15 +70,14 @@ pub order-first : (p batch house : List ℕ) (start n : ℕ) {place : ℕ} → p
 order-first p batch house start n e z = rw (eq-eqb _ _ (sym e ∙ z)) none
 
 pub order-after :
-    (p batch house : List ℕ) (start n : ℕ) {place before index : ℕ} {x y : EnclaveImage} {o : Outcome}
+    (p batch house : List ℕ) (start n : ℕ) {place before index : ℕ} {x y : IdentityPlace} {o : Outcome}
     → place ≡ enclavesBefore p n → before ≡ enclaveBefore p n → (place ≡ 0 → ⊥)
-    → x ≡ enclaveAt p n → y ≡ enclaveAt p before → index ≡ indexFrom start place
-    → Decides (idOrderChecks (identityText batch house) 4 index (x .«enclave_id») (y .«enclave_id»)) o
+    → x ≡ idAt p n → y ≡ idAt p before → index ≡ indexFrom start place
+    → Decides (idOrderChecks (identityText batch house) 4 index x y) o
     → Decides (orderChecks p batch house start n) o
 order-after p batch house start n {place} e f z g h i d =
-    let a = ap (λ (r : EnclaveImage). r .«enclave_id») g in
-    let b = ap (λ (r : EnclaveImage). r .«enclave_id») h ∙ ap (λ (k : ℕ). idAt p k) f in
-    rw (← e, ne-eqb place 0 z) (rw (i, a, b) at d)
+    let b = h ∙ ap (λ (k : ℕ). idAt p k) f in
+    rw (← e, ne-eqb place 0 z) (rw (i, g, b) at d)
 
 -- a table starts at most as many records after the first row as the pack has
 either : (b : Bool) (m n k : ℕ) → m ≤ n + 1 + k → cond b n m ≤ n + suc k

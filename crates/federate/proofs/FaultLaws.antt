@@ -1,11 +1,11 @@
 -- Rows sorted by their boundaries: the first record at fault is the smallest row that does not fit where it stands. Assumes nothing.
-use Prim.Native.Nat.{ℕ, zero, suc, _+_, _<_, _≤_}
+use Prim.Native.Nat.{ℕ, zero, suc, _+_, _-_, _<_, _≤_}
 use mathlib.Core.Bool.{Bool, true, false, not}
 use mathlib.Core.List.{List}
 use mathlib.Core.Path.{_≡_, refl, ap, sym, _∙_}
 use native.Mathlib.Numerals.{add-one}
 use native.Mathlib.Omega.{arith}
-use lib.ListN.{length, getD}
+use lib.ListN.{length, getD, replicate, length-replicate}
 use borrow.Author.Tests.{not-true, not-false}
 use Rattle.identity.specs.declared.IdentityPlace.{IdentityPlace}
 use Rattle.identity.specs.declared.ByteOrder.{ByteOrder}
@@ -19,13 +19,13 @@ use Rattle.answers.proofs.Loops.{Remaining, remaining-start, remaining-step, re
 use Rattle.schema.specs.Rows.{routeAt}
 use Rattle.packing.specs.Starts.{recordsOf}
 use Rattle.checks.specs.Identities.{isEqual}
-use Rattle.federate.specs.Records.{isOf}
+use Rattle.federate.specs.Records.{isOf, countBelow}
 use Rattle.federate.specs.RoutePairs.{routeRecordChecks}
 use Rattle.federate.specs.RouteOrder.{boundaryAt, before, Ordered, Listed, areHalves, Fits, Tells, Scanned, FirstFault}
 use Rattle.federate.proofs.Tests.{cases, no-both}
 use Rattle.federate.proofs.OrderLaws.{before-between, before-number}
 use Rattle.federate.proofs.SortLaws.{below-or, same-or}
-use Rattle.federate.proofs.RowLaws.{placed, row-is, row-once}
+use Rattle.federate.proofs.RowLaws.{below-some, placed, row-is, row-once}
 use Rattle.federate.proofs.PairLaws.{Beside, Paired, halves-are, are-halves, three-ways, route-passes, ways-differ, pairs-up}
 
 -- what a comparison tells
@@ -192,3 +192,20 @@ module _ {f : ℕ → List Check} {i n : ℕ} (c : FirstFault f i n) where
 
   pub no-fault : n ≤ i → Decides (run f 0 n) Passed
   no-fault h = remaining-none (up-to i (omega arith)) h
+
+-- without a route there is none
+pub no-routes : (text : IdentityPlace → List ℕ) (p : List ℕ) {found : ℕ} → found ≡ countBelow (isOf p 23) (recordsOf p) → found ≡ 0 → Decides (run (routeRecordChecks text p) 0 (recordsOf p)) Passed
+unfolding routeRecordChecks first
+no-routes text p e z =
+    no-fault (record {
+      within = omega arith;
+      passes = λ n h. cases (isOf p 23 n) (λ t. absurd (let s = below-some (isOf p 23) (recordsOf p) n h t in omega arith)) (λ f. rw f);
+      stops = λ h. absurd (omega arith);
+    }) (omega arith)
+
+-- as much room as there can be leaves less to ask for than d does
+pub room-less : (n : ℕ) {d k t : ℕ} → n - d ≡ t → d < k → k ≤ n → n - length {A = ℕ} (replicate n 0) < t
+room-less n e h l = rw length-replicate (omega arith)
+
+pub same-room : (n : ℕ) → length {A = ℕ} (replicate n 0) ≤ length {A = ℕ} (replicate n 0)
+same-room n = omega arith

@@ -15,7 +15,7 @@ use checks::identities;
 use enclave::EnclaveAnswer;
 use enclave::check;
 use packing::starts;
-use schema::read;
+use schema::parts;
 use schema::rows::EnclaveImage;
 
 const KEYS: u64 = 0x1_0000_0000;
@@ -53,15 +53,13 @@ fn check_order<'a>(
     if place == 0 {
         return Outcome::Passed;
     }
-    let enclave = read::enclave_at(pack, n as usize);
-    let previous = read::enclave_at(pack, before as usize);
     identities::validate_id_order(
         batch,
         house,
         kind::ENCLAVE,
         index_from(start, place),
-        enclave.enclave_id,
-        previous.enclave_id,
+        parts::enclave_id_at(pack, n as usize),
+        parts::enclave_id_at(pack, before as usize),
     )
 }
 

@@ -181,16 +181,41 @@ fn fault_by<'a>(
     fault_within(pack, batch, house, rows, spare, routes)
 }
 
+// The same for at most SOME_ROUTES routes, whose 8 KiB the callers' frames do not hold either.
+fn fault_some<'a>(
+    pack: &'a [u8],
+    batch: &'a [u8],
+    house: &'a [u8],
+    rows: &mut [u32],
+    spare: &mut [u32],
+    routes: usize,
+) -> u32
+    requires { ⌜ (routes ≡ countBelow (isOf (now pack) 23) (recordsOf (now pack))) × (routes ≤ 1024) × (length (now rows) ≤ length (now spare)) ⌝ }
+    ensures { λ r. ⌜ FirstFault (routeRecordChecks (identityText (now (batch .entry)) (now (house .entry))) (now (pack .entry))) r (recordsOf (now (pack .entry))) ⌝ }
+{
+    if rows.len() < routes {
+        return fault_some(
+            pack,
+            batch,
+            house,
+            &mut [0u32; SOME_ROUTES],
+            &mut [0u32; SOME_ROUTES],
+            routes,
+        );
+    }
+    fault_within(pack, batch, house, rows, spare, routes)
+}
+
 // The first record at fault of a pack with so many routes; the number of records where none is.
 pub fn first_fault<'a>(pack: &'a [u8], batch: &'a [u8], house: &'a [u8], routes: u32) -> u32
     requires { ⌜ routes ≡ countBelow (isOf (now pack) 23) (recordsOf (now pack)) ⌝ }
     ensures { λ r. ⌜ FirstFault (routeRecordChecks (identityText (now (batch .entry)) (now (house .entry))) (now (pack .entry))) r (recordsOf (now (pack .entry))) ⌝ }
 {
     let n = routes as usize;
-    let mut rows = [0u32; SOME_ROUTES];
-    let mut spare = [0u32; SOME_ROUTES];
+    let mut rows = [0u32; 0];
+    let mut spare = [0u32; 0];
     if n <= SOME_ROUTES {
-        return fault_within(pack, batch, house, &mut rows, &mut spare, n);
+        return fault_some(pack, batch, house, &mut rows, &mut spare, n);
     }
     fault_by(pack, batch, house, &mut rows, &mut spare, n)
 }

@@ -16,7 +16,7 @@ use schema::read;
 use schema::rows::RouteImage;
 
 // Fewer routes than this are each compared with all, without a sort.
-const FEW_ROUTES: u32 = 8;
+const FEW_ROUTES: u32 = 4;
 
 // What is counted among the routes of one boundary.
 pub enum Half {
@@ -163,6 +163,9 @@ pub fn validate_federate_route_pairs<'a>(
     ensures { λ r. ⌜ Decides (run (routeRecordChecks (identityText (now (batch .entry)) (now (house .entry))) (now (pack .entry))) 0 (recordsOf (now (pack .entry)))) r ⌝ }
 {
     let found = records::count_of(pack, RouteImage::TABLE);
+    if found == 0 {
+        return Outcome::Passed;
+    }
     if found < FEW_ROUTES {
         return check_each(pack, batch, house);
     }

@@ -14,6 +14,7 @@ use crate::read::long_of;
 use crate::read::maybe_mode;
 use crate::read::maybe_scope;
 use crate::read::word_of;
+use identity::IdentityPlace;
 use range::IndexSpan;
 use range::ModeSpan;
 use range::SliceRange;
@@ -47,6 +48,16 @@ pub fn long_at(p: &[u8], n: usize, j: usize) -> u64
         return 0;
     }
     long_of(p, n, j)
+}
+
+pub fn enclave_id_at(p: &[u8], n: usize) -> IdentityPlace
+    ensures { λ r. ⌜ r ≡ enclaveAt (now (p .entry)) n .«enclave_id» ⌝ }
+{
+    IdentityPlace {
+        house: bit(byte_at(p, n, 1), 1),
+        start: word_at(p, n, 4),
+        len: word_at(p, n, 8),
+    }
 }
 
 pub fn state_slots_at(p: &[u8], n: usize) -> u32

@@ -15,7 +15,7 @@ use schema::TableStarts;
 use schema::index::MaybeScope;
 use schema::rows::ScopeImage;
 
-// Room for the depths of most images: 16 KiB of stack, which cost little to clear beside the check of 64 scopes.
+// Room for the depths of most images: 16 KiB of stack.
 const MEDIUM: usize = 4096;
 // Room for as many depths as a pack has records: 256 KiB of stack.
 const LARGE: usize = 65536;
@@ -123,14 +123,25 @@ fn check_parents_in(p: &[u8], s: &TableStarts, depths: &mut [u32]) -> Parents
     check_parents_by(p, s, depths)
 }
 
+// The same where the most is not needed. It calls itself too, which keeps its 16 KiB out of the frames of images with few scopes.
+fn check_parents_some(p: &[u8], s: &TableStarts, depths: &mut [u32]) -> Parents
+    requires { ⌜ Known (image (now p) [] [] (now s) 0) (now depths) ⌝ }
+    ensures { λ r. ⌜ r ≡ allParents (image (now (p .entry)) [] [] (now (s .entry)) 0) ⌝ }
+{
+    if depths.len() < MEDIUM {
+        return check_parents_some(p, s, &mut [0u32; MEDIUM]);
+    }
+    check_parents_by(p, s, depths)
+}
+
 // The parents of every scope, each scope's links found once.
 pub fn check_parents_once(p: &[u8], s: &TableStarts) -> Parents
     ensures { λ r. ⌜ r ≡ allParents (image (now (p .entry)) [] [] (now (s .entry)) 0) ⌝ }
 {
     let n = refs::rows_of(s, ScopeImage::TABLE) as usize;
-    let mut depths = [0u32; MEDIUM];
+    let mut none = [0u32; 0];
     if n <= MEDIUM {
-        return check_parents_by(p, s, &mut depths);
+        return check_parents_some(p, s, &mut none);
     }
-    check_parents_in(p, s, &mut depths)
+    check_parents_in(p, s, &mut none)
 }

@@ -7,4 +7,4 @@ pub check-enclave-id-spec : {M : Type 1} → statement M
 check-enclave-id-spec = tie.close (tie.spec
     (λ c κs. search needs)
     (λ c κs. search needs)
-    (λ c. rw (← c .before .enclave-at .ensures) (c .validate-id .ensures)))
+    (λ c. rw (← c .before .enclave-id-at .ensures) (c .validate-id .ensures)))

@@ -14,4 +14,4 @@ check-order-spec =
     (λ c κs. search needs)
     (λ c κs. search needs)
     (λ c κs. search needs)
-    (λ c. order-after _ _ _ _ _ (c .before .before .before .before .before .before .before .before .pre .0) (c .before .before .before .before .before .before .before .before .pre .1) (c .before .before .before .before .if1 .left) (c .before .before .before .enclave-at .ensures) (c .before .before .enclave-at2 .ensures) (c .before .index-from .ensures) (c .validate-id-order .ensures)))
+    (λ c. order-after _ _ _ _ _ (c .before .before .before .before .before .before .before .before .pre .0) (c .before .before .before .before .before .before .before .before .pre .1) (c .before .before .before .before .if1 .left) (c .before .before .enclave-id-at .ensures) (c .before .enclave-id-at2 .ensures) (c .before .before .before .index-from .ensures) (c .validate-id-order .ensures)))

@@ -1,12 +1,11 @@
 -- `federate::route_faults::fault_by` meets its contract. The measure is the room that is short of the most. Assumes nothing.
-use Prim.Native.Nat.{ℕ, _-_, _<_, _≤_}
+use Prim.Native.Nat.{ℕ, _-_, _<_}
 use borrow.Author.Needs.{needs}
 use borrow.Fn.Kinds.{In}
 use borrow.Fn.PlainCycle.{Measures, is, falls, and}
 use denote.Ref.{now}
-use lib.ListN.{length, replicate, length-replicate}
-use mathlib.Core.Path.{_≡_}
-use native.Mathlib.Omega.{arith}
+use lib.ListN.{length}
+use Rattle.federate.proofs.FaultLaws.{room-less, same-room}
 use Rattle.federate.proofs.route_faults.+fault_by.Lts-fault_by as lts
 use Rattle.federate.proofs.route_faults.+fault_by.Tie.{close}
 use Rattle.federate.proofs.route_faults.+fault_by.{statement}
@@ -22,13 +21,6 @@ at-measure t = and 3 kinds.ps (is 3 kinds.ps μ t) reads.Pre
 
 abbrev below : ℕ → In 3 kinds.ps
 below t = and 3 kinds.ps (falls 3 kinds.ps _<_ μ t) reads.Pre
-
--- as much room as there can be leaves less to ask for than d does
-room-less : (n : ℕ) {d k t : ℕ} → n - d ≡ t → d < k → k ≤ n → n - length {A = ℕ} (replicate n 0) < t
-room-less n e h l = rw length-replicate (omega arith)
-
-same-room : (n : ℕ) → length {A = ℕ} (replicate n 0) ≤ length {A = ℕ} (replicate n 0)
-same-room n = omega arith
 
 pub +fault-by-spec : {M : Type 1} → statement M
 +fault-by-spec = close μ λ t. lts.spec (below t, reads.Post, fault-within-reads.Asked, fault-within-reads.Learnt)
