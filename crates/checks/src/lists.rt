@@ -13,7 +13,6 @@ use answers::field;
 use schema::TableStarts;
 use schema::index::ActionIndex;
 use schema::lists::LevelReactionImage;
-use schema::lists::LifecycleReactionImage;
 use schema::parts;
 use schema::read_lists;
 
@@ -102,18 +101,27 @@ fn level_entry(p: &[u8], s: &TableStarts, table: u8, start: u32, k: u32) -> Leve
     read_lists::level_at(p, crate::refs::row_in(s[t], start, k))
 }
 
-fn lifecycle_entry(
+// The two parts of a lifecycle reaction there.
+fn lifecycle_reaction(
     p: &[u8],
     s: &TableStarts,
     table: u8,
     start: u32,
     k: u32,
-) -> LifecycleReactionImage
+) -> LevelReactionImage
     requires { ⌜ table < 25 ⌝ }
-    ensures { λ r. ⌜ r ≡ lifecyclesAt (now (p .entry)) (now (s .entry)) table (start + k) ⌝ }
+    ensures { λ r. ⌜ r ≡ lifecyclesAt (now (p .entry)) (now (s .entry)) table (start + k) .reaction ⌝ }
 {
     let t = table as usize;
-    read_lists::lifecycle_at(p, crate::refs::row_in(s[t], start, k))
+    parts::lifecycle_reaction_at(p, crate::refs::row_in(s[t], start, k))
+}
+
+fn lifecycle_action(p: &[u8], s: &TableStarts, table: u8, start: u32, k: u32) -> ActionIndex
+    requires { ⌜ table < 25 ⌝ }
+    ensures { λ r. ⌜ r ≡ lifecyclesAt (now (p .entry)) (now (s .entry)) table (start + k) .action ⌝ }
+{
+    let t = table as usize;
+    parts::lifecycle_action_at(p, crate::refs::row_in(s[t], start, k))
 }
 
 fn check_level(p: &[u8], s: &TableStarts, table: u8, start: u32, k: u32) -> Outcome
@@ -137,12 +145,12 @@ pub fn check_lifecycle(p: &[u8], s: &TableStarts, table: u8, start: u32, k: u32)
     ensures { λ r. ⌜ Decides (lifecycleChecks (rowsOf (now (s .entry))) (reactionsAt (now (p .entry)) (now (s .entry))) (lifecyclesAt (now (p .entry)) (now (s .entry))) table start k) r ⌝ }
 {
     let index = entry_index(start, k);
-    let entry = lifecycle_entry(p, s, table, start, k);
-    let a = check_action(s, table, index, entry.action);
+    let action = lifecycle_action(p, s, table, start, k);
+    let reaction = lifecycle_reaction(p, s, table, start, k);
+    let a = check_action(s, table, index, action);
     let Outcome::Passed = a else {
         return a;
     };
-    let reaction = entry.reaction;
     let b = validate_level_ref(p, s, table, index, reaction);
     let Outcome::Passed = b else {
         return b;
@@ -150,8 +158,8 @@ pub fn check_lifecycle(p: &[u8], s: &TableStarts, table: u8, start: u32, k: u32)
     if k == 0 {
         return Outcome::Passed;
     }
-    let before = lifecycle_entry(p, s, table, start, k - 1);
-    check_level_order(table, index, reaction, before.reaction)
+    let before = lifecycle_reaction(p, s, table, start, k - 1);
+    check_level_order(table, index, reaction, before)
 }
 
 // An entry's action is there.

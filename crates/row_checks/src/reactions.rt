@@ -47,11 +47,11 @@ fn ends_before(p: &[u8], s: &TableStarts, i: u32) -> ReactionEnds
             enabled: 0,
         };
     }
-    let row = read::reaction_at(p, refs::row_number(s, ReactionImage::TABLE, i - 1));
-    let uses = row.use_ports;
-    let effects = row.effect_ports;
-    let actions = row.actions;
-    let enabled = row.enabled_modes;
+    let n = refs::row_number(s, ReactionImage::TABLE, i - 1);
+    let uses = parts::reaction_use_ports_at(p, n);
+    let effects = parts::reaction_effect_ports_at(p, n);
+    let actions = parts::reaction_actions_at(p, n);
+    let enabled = parts::reaction_enabled_modes_at(p, n);
     ReactionEnds {
         uses: uses.saturating_end(),
         effects: effects.saturating_end(),

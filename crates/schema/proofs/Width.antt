@@ -1,12 +1,12 @@
 -- One byte more, over the width. Assumes nothing.
-use Prim.Native.Nat.{ℕ, zero, suc, _+_, _*_, _^_, _<_, _≤_}
+use Prim.Native.Nat.{ℕ, zero, suc, _+_, _*_, _/_, _%_, _^_, _<_, _≤_}
 use mathlib.Core.Path.{_≡_, _∙_, ap, sym, refl}
 use mathlib.Core.List.{List}
 use native.Mathlib.Nat.{pow-suc, add-zero, add-suc, mul-assoc, zero-mul, zero-add, pow-le-pow-right}
 use native.Mathlib.Numerals.{add-one}
 use native.Mathlib.Omega.{arith}
 use lib.ListN.{getD}
-use Rattle.schema.specs.Number.{number, Number}
+use Rattle.schema.specs.Number.{number, Number, Words}
 
 -- a number of j bytes and the byte after them: a number of j + 1 bytes
 pub more : {j : ℕ} {p : List ℕ} {o r : ℕ} (b : ℕ) → Number j p o r → b ≡ getD p (o + j) 0 → b < 256 → Number (j + 1) p o (r * 256 + b)
@@ -41,3 +41,15 @@ number-four p o = rw (add-zero, zero-mul, zero-add)
 
 pub number-eight : (p : List ℕ) (o : ℕ) → number 4 p o * 4294967296 + number 4 p (o + 4) ≡ number 8 p o
 number-eight p o = sym (number-add 4 4 p o)
+
+-- two W's in one number are a D
+pub words-number : {p : List ℕ} {o r : ℕ} → Words p o r → r ≡ number 8 p o
+words-number {p} {o} {r} w =
+    let x : r ≡ r / 4294967296 * 4294967296 + r % 4294967296 = omega arith in
+    x ∙ rw (w .first, w .second) (number-eight p o)
+
+-- the second W, by a record's offset
+pub second-at : {p : List ℕ} {r : ℕ} (o j : ℕ) → Words p (o + j) r → r % 4294967296 ≡ number 4 p (o + (j + 4))
+second-at {p} o j w =
+    let e : (o + j) + 4 ≡ o + (j + 4) = omega arith in
+    w .second ∙ ap (number 4 p) e

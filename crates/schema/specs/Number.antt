@@ -1,5 +1,5 @@
 -- The numbers of a pack: k bytes from an offset, high byte first. A byte past the end counts as 0. Assumes nothing.
-use Prim.Native.Nat.{ℕ, zero, suc, _+_, _*_, _^_, _<_}
+use Prim.Native.Nat.{ℕ, zero, suc, _+_, _*_, _/_, _%_, _^_, _<_}
 use mathlib.Core.Path.{_≡_}
 use mathlib.Core.List.{List}
 use lib.ListN.{getD}
@@ -13,3 +13,8 @@ number (suc k) p o = number k p o * 256 + getD p (o + k) 0
 pub record Number (k : ℕ) (p : List ℕ) (o r : ℕ) : Type 0 where
   pub value : r ≡ number k p o
   pub bound : r < 256 ^ k
+
+-- r has the W at o and the W after it as its halves
+pub record Words (p : List ℕ) (o r : ℕ) : Type 0 where
+  pub first : r / 4294967296 ≡ number 4 p o
+  pub second : r % 4294967296 ≡ number 4 p (o + 4)

@@ -1,8 +1,8 @@
 // The numbers of a pack, high byte first: W is 4 bytes, D is 8. A byte past the end counts as 0.
 ghost use mathlib.Core.Path.{_≡_};
-ghost use Prim.Native.Nat.{_+_, _*_, _≤_};
+ghost use Prim.Native.Nat.{_+_, _*_, _/_, _%_, _^_, _<_, _≤_};
 ghost use lib.ListN.{getD, length};
-ghost use Rattle.schema.specs.Number.{number, Number};
+ghost use Rattle.schema.specs.Number.{number, Number, Words};
 
 // The byte at `at + j`, or 0 past the end.
 pub fn byte(p: &[u8], at: usize, j: usize) -> u8
@@ -48,7 +48,20 @@ fn pair(high: u32, low: u32) -> u64
     (high as u64) * 4294967296 + (low as u64)
 }
 
-// A W and a D that lie inside.
+// The first and the second W of a pair.
+pub fn high(pair: u64) -> u32
+    ensures { λ r. ⌜ r ≡ pair / 4294967296 ⌝ }
+{
+    (pair / 4294967296) as u32
+}
+
+pub fn low(pair: u64) -> u32
+    ensures { λ r. ⌜ r ≡ pair % 4294967296 ⌝ }
+{
+    (pair % 4294967296) as u32
+}
+
+// A W, two W's and a D that lie inside.
 pub fn word_inside(p: &[u8], at: usize) -> u32
     requires { ⌜ at + 4 ≤ length (now p) ⌝ }
     ensures { λ r. ⌜ r ≡ number 4 (now (p .entry)) at ⌝ }
@@ -56,11 +69,18 @@ pub fn word_inside(p: &[u8], at: usize) -> u32
     four(p[at], p[at + 1], p[at + 2], p[at + 3])
 }
 
+pub fn words_inside(p: &[u8], at: usize) -> u64
+    requires { ⌜ at + 8 ≤ length (now p) ⌝ }
+    ensures { λ r. ⌜ Words (now (p .entry)) at r ⌝ }
+{
+    pair(word_inside(p, at), word_inside(p, at + 4))
+}
+
 pub fn long_inside(p: &[u8], at: usize) -> u64
     requires { ⌜ at + 8 ≤ length (now p) ⌝ }
     ensures { λ r. ⌜ r ≡ number 8 (now (p .entry)) at ⌝ }
 {
-    pair(word_inside(p, at), word_inside(p, at + 4))
+    words_inside(p, at)
 }
 
 // The W at `at`.
@@ -75,14 +95,10 @@ pub fn word(p: &[u8], at: usize) -> u32
     number(p, at, 4) as u32
 }
 
-// The D at `at`.
-pub fn long(p: &[u8], at: usize) -> u64
-    ensures { λ r. ⌜ r ≡ number 8 (now (p .entry)) at ⌝ }
+// The two W's from `at`. Large enough to be called, not copied into each reader, which it is for where a record is not whole.
+pub fn words(p: &[u8], at: usize) -> u64
+    requires { ⌜ at + 4 < 2 ^ 64 ⌝ }
+    ensures { λ r. ⌜ Words (now (p .entry)) at r ⌝ }
 {
-    if at < p.len() {
-        if 8 <= p.len() - at {
-            return long_inside(p, at);
-        }
-    }
-    number(p, at, 8)
+    pair(word(p, at), word(p, at + 4))
 }

@@ -2,17 +2,20 @@
 ghost use mathlib.Core.Path.{_≡_};
 ghost use Prim.Native.Nat.{_+_, _*_, _<_};
 ghost use Rattle.schema.specs.Number.{number};
-ghost use Rattle.schema.specs.Rows.{byteOf, enclaveAt, reactorAt, actionAt, portAt, reactionAt, scopeAt, bindingAt};
+ghost use Rattle.schema.specs.Rows.{byteOf, enclaveAt, reactorAt, actionAt, portAt, reactionAt, scopeAt, bindingAt, lifecycleAt};
+use crate::index::ActionIndex;
 use crate::index::BindingKind;
 use crate::index::MaybeMode;
 use crate::index::MaybeScope;
 use crate::index::ReactorIndex;
+use crate::lists::LevelReactionImage;
 use crate::read::bit;
 use crate::read::byte_of;
 use crate::read::kind_of;
 use crate::read::long_of;
 use crate::read::maybe_mode;
 use crate::read::maybe_scope;
+use crate::read::range_of;
 use crate::read::word_of;
 use identity::IdentityPlace;
 use range::IndexSpan;
@@ -50,13 +53,26 @@ pub fn long_at(p: &[u8], n: usize, j: usize) -> u64
     long_of(p, n, j)
 }
 
+// The start and the length from byte j of record n.
+fn range_at(p: &[u8], n: usize, j: usize) -> SliceRange
+    requires { ⌜ j < 60 ⌝ }
+    ensures { λ r. ⌜ r ≡ record { start = number 4 (now (p .entry)) (n * 64 + j); len = number 4 (now (p .entry)) (n * 64 + (j + 4)) } ⌝ }
+{
+    if p.len() / 64 < n {
+        return SliceRange { start: 0, len: 0 };
+    }
+    range_of(p, n, j)
+}
+
 pub fn enclave_id_at(p: &[u8], n: usize) -> IdentityPlace
     ensures { λ r. ⌜ r ≡ enclaveAt (now (p .entry)) n .«enclave_id» ⌝ }
 {
+    let house = bit(byte_at(p, n, 1), 1);
+    let part = range_at(p, n, 4);
     IdentityPlace {
-        house: bit(byte_at(p, n, 1), 1),
-        start: word_at(p, n, 4),
-        len: word_at(p, n, 8),
+        house,
+        start: part.start,
+        len: part.len,
     }
 }
 
@@ -84,19 +100,13 @@ pub fn reactor_modes_at(p: &[u8], n: usize) -> ModeSpan
 pub fn action_triggers_at(p: &[u8], n: usize) -> SliceRange
     ensures { λ r. ⌜ r ≡ actionAt (now (p .entry)) n .triggers ⌝ }
 {
-    SliceRange {
-        start: word_at(p, n, 24),
-        len: word_at(p, n, 28),
-    }
+    range_at(p, n, 24)
 }
 
 pub fn port_triggers_at(p: &[u8], n: usize) -> SliceRange
     ensures { λ r. ⌜ r ≡ portAt (now (p .entry)) n .triggers ⌝ }
 {
-    SliceRange {
-        start: word_at(p, n, 12),
-        len: word_at(p, n, 16),
-    }
+    range_at(p, n, 12)
 }
 
 pub fn reaction_reactor_at(p: &[u8], n: usize) -> ReactorIndex
@@ -111,13 +121,28 @@ pub fn reaction_level_at(p: &[u8], n: usize) -> u32
     word_at(p, n, 12)
 }
 
+pub fn reaction_use_ports_at(p: &[u8], n: usize) -> SliceRange
+    ensures { λ r. ⌜ r ≡ reactionAt (now (p .entry)) n .«use_ports» ⌝ }
+{
+    range_at(p, n, 20)
+}
+
+pub fn reaction_effect_ports_at(p: &[u8], n: usize) -> SliceRange
+    ensures { λ r. ⌜ r ≡ reactionAt (now (p .entry)) n .«effect_ports» ⌝ }
+{
+    range_at(p, n, 28)
+}
+
+pub fn reaction_actions_at(p: &[u8], n: usize) -> SliceRange
+    ensures { λ r. ⌜ r ≡ reactionAt (now (p .entry)) n .actions ⌝ }
+{
+    range_at(p, n, 36)
+}
+
 pub fn reaction_enabled_modes_at(p: &[u8], n: usize) -> SliceRange
     ensures { λ r. ⌜ r ≡ reactionAt (now (p .entry)) n .«enabled_modes» ⌝ }
 {
-    SliceRange {
-        start: word_at(p, n, 44),
-        len: word_at(p, n, 48),
-    }
+    range_at(p, n, 44)
 }
 
 pub fn scope_parent_at(p: &[u8], n: usize) -> MaybeScope
@@ -141,28 +166,32 @@ pub fn scope_mode_at(p: &[u8], n: usize) -> MaybeMode
 pub fn scope_reset_reactions_at(p: &[u8], n: usize) -> SliceRange
     ensures { λ r. ⌜ r ≡ scopeAt (now (p .entry)) n .«reset_reactions» ⌝ }
 {
-    SliceRange {
-        start: word_at(p, n, 40),
-        len: word_at(p, n, 44),
-    }
+    range_at(p, n, 40)
 }
 
 pub fn scope_startup_reactions_at(p: &[u8], n: usize) -> SliceRange
     ensures { λ r. ⌜ r ≡ scopeAt (now (p .entry)) n .«startup_reactions» ⌝ }
 {
-    SliceRange {
-        start: word_at(p, n, 48),
-        len: word_at(p, n, 52),
-    }
+    range_at(p, n, 48)
 }
 
 pub fn scope_shutdown_reactions_at(p: &[u8], n: usize) -> SliceRange
     ensures { λ r. ⌜ r ≡ scopeAt (now (p .entry)) n .«shutdown_reactions» ⌝ }
 {
-    SliceRange {
-        start: word_at(p, n, 56),
-        len: word_at(p, n, 60),
-    }
+    range_at(p, n, 56)
+}
+
+// The action of a lifecycle reaction, and its level and reaction.
+pub fn lifecycle_action_at(p: &[u8], n: usize) -> ActionIndex
+    ensures { λ r. ⌜ r ≡ lifecycleAt (now (p .entry)) n .action ⌝ }
+{
+    ActionIndex(word_at(p, n, 12))
+}
+
+pub fn lifecycle_reaction_at(p: &[u8], n: usize) -> LevelReactionImage
+    ensures { λ r. ⌜ r ≡ lifecycleAt (now (p .entry)) n .reaction ⌝ }
+{
+    crate::read_lists::level_at(p, n)
 }
 
 pub fn binding_kind_at(p: &[u8], n: usize) -> BindingKind

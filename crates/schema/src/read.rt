@@ -3,7 +3,7 @@ ghost use mathlib.Core.Path.{_≡_};
 ghost use Prim.Native.Nat.{_+_, _*_, _/_, _≤_, _<_, _%_};
 ghost use lib.Dec.{eqb};
 ghost use lib.ListN.{length};
-ghost use Rattle.schema.specs.Number.{number};
+ghost use Rattle.schema.specs.Number.{number, Words};
 ghost use Rattle.schema.specs.Rows.{byteOf, maybeMode, maybeScope, maybeBinding, maybeBank, maybePeriod, maybeEffect, transitionOf, timingOf, kindOf, directionOf, domainOf, federateAt, enclaveAt, reactorAt, actionAt, portAt, reactionAt, modeAt, scopeAt, routeAt, bindingAt};
 use crate::index::ActionTiming;
 use crate::index::BankInfoImage;
@@ -23,6 +23,11 @@ use crate::index::RouteDirection;
 use crate::index::ScopeIndex;
 use crate::index::TimingDomain;
 use crate::index::Transition;
+use crate::number::high;
+use crate::number::low;
+use crate::number::word_inside;
+use crate::number::words;
+use crate::number::words_inside;
 use crate::rows::ActionImage;
 use crate::rows::EnclaveImage;
 use crate::rows::FederateImage;
@@ -59,22 +64,30 @@ pub fn word_of(p: &[u8], n: usize, j: usize) -> u32
 {
     if n < p.len() / 64 {
         if j <= 60 {
-            return crate::number::word_inside(p, n * 64 + j);
+            return word_inside(p, n * 64 + j);
         }
     }
-    crate::number::word(p, n * 64 + j)
+    high(words(p, n * 64 + j))
+}
+
+// Two W's in one number: read and passed on at once.
+pub fn words_of(p: &[u8], n: usize, j: usize) -> u64
+    requires { ⌜ (n ≤ length (now p) / 64) × (j < 64) ⌝ }
+    ensures { λ r. ⌜ Words (now (p .entry)) (n * 64 + j) r ⌝ }
+{
+    if n < p.len() / 64 {
+        if j <= 56 {
+            return words_inside(p, n * 64 + j);
+        }
+    }
+    words(p, n * 64 + j)
 }
 
 pub fn long_of(p: &[u8], n: usize, j: usize) -> u64
     requires { ⌜ (n ≤ length (now p) / 64) × (j < 64) ⌝ }
     ensures { λ r. ⌜ r ≡ number 8 (now (p .entry)) (n * 64 + j) ⌝ }
 {
-    if n < p.len() / 64 {
-        if j <= 56 {
-            return crate::number::long_inside(p, n * 64 + j);
-        }
-    }
-    crate::number::long(p, n * 64 + j)
+    words_of(p, n, j)
 }
 
 // Whether the bit of that weight is 1.
@@ -85,13 +98,14 @@ pub fn bit(b: u8, weight: u8) -> bool
     b / weight % 2 == 1
 }
 
-fn range_of(p: &[u8], n: usize, j: usize) -> SliceRange
+pub fn range_of(p: &[u8], n: usize, j: usize) -> SliceRange
     requires { ⌜ (n ≤ length (now p) / 64) × (j < 60) ⌝ }
     ensures { λ r. ⌜ r ≡ record { start = number 4 (now (p .entry)) (n * 64 + j); len = number 4 (now (p .entry)) (n * 64 + (j + 4)) } ⌝ }
 {
+    let pair = words_of(p, n, j);
     SliceRange {
-        start: word_of(p, n, j),
-        len: word_of(p, n, j + 4),
+        start: high(pair),
+        len: low(pair),
     }
 }
 
@@ -109,10 +123,11 @@ fn place_of(house: bool, p: &[u8], n: usize, j: usize) -> IdentityPlace
     requires { ⌜ (n ≤ length (now p) / 64) × (j < 60) ⌝ }
     ensures { λ r. ⌜ r ≡ record { house = house; start = number 4 (now (p .entry)) (n * 64 + j); len = number 4 (now (p .entry)) (n * 64 + (j + 4)) } ⌝ }
 {
+    let pair = words_of(p, n, j);
     IdentityPlace {
         house,
-        start: word_of(p, n, j),
-        len: word_of(p, n, j + 4),
+        start: high(pair),
+        len: low(pair),
     }
 }
 

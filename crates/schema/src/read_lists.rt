@@ -24,8 +24,11 @@ use crate::lists::ShutdownReaction;
 use crate::lists::StartupAction;
 use crate::lists::TimerStartupAction;
 use crate::lists::TimerStartupImage;
+use crate::number::high;
+use crate::number::low;
 use crate::read::long_of;
 use crate::read::word_of;
+use crate::read::words_of;
 
 // One index. Past the pack it is `past`, which the row kind gives; so also below.
 fn index_or(p: &[u8], n: usize, past: u32) -> u32
@@ -45,9 +48,10 @@ fn level_or(p: &[u8], n: usize, past: LevelReactionImage) -> LevelReactionImage
     if p.len() / 64 < n {
         return past;
     }
+    let pair = words_of(p, n, 4);
     LevelReactionImage {
-        level: word_of(p, n, 4),
-        reaction: ReactionIndex(word_of(p, n, 8)),
+        level: high(pair),
+        reaction: ReactionIndex(low(pair)),
     }
 }
 
@@ -71,10 +75,11 @@ fn lifecycle_or(p: &[u8], n: usize, past: LifecycleReactionImage) -> LifecycleRe
     if p.len() / 64 < n {
         return past;
     }
+    let pair = words_of(p, n, 4);
     LifecycleReactionImage {
         reaction: LevelReactionImage {
-            level: word_of(p, n, 4),
-            reaction: ReactionIndex(word_of(p, n, 8)),
+            level: high(pair),
+            reaction: ReactionIndex(low(pair)),
         },
         action: ActionIndex(word_of(p, n, 12)),
     }

@@ -6,10 +6,9 @@ use Rattle.schema.proofs.parts.action_triggers_at.Tie as tie
 
 returns : tie.Need-returns
 unfolding actionAt
-returns c = simp (c .word-at2 .ensures, c .before .word-at .ensures)
+returns c = simp (c .range-at .ensures)
 
 pub action-triggers-at-spec : {M : Type 1} → statement M
 action-triggers-at-spec = tie.close (tie.spec
-    (λ c κs. search needs)
     (λ c κs. search needs)
     returns)

@@ -6,10 +6,9 @@ use Rattle.schema.proofs.parts.port_triggers_at.Tie as tie
 
 returns : tie.Need-returns
 unfolding portAt
-returns c = simp (c .word-at2 .ensures, c .before .word-at .ensures)
+returns c = simp (c .range-at .ensures)
 
 pub port-triggers-at-spec : {M : Type 1} → statement M
 port-triggers-at-spec = tie.close (tie.spec
-    (λ c κs. search needs)
     (λ c κs. search needs)
     returns)

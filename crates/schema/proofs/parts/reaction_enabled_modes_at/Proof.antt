@@ -6,10 +6,9 @@ use Rattle.schema.proofs.parts.reaction_enabled_modes_at.Tie as tie
 
 returns : tie.Need-returns
 unfolding reactionAt
-returns c = simp (c .word-at2 .ensures, c .before .word-at .ensures)
+returns c = simp (c .range-at .ensures)
 
 pub reaction-enabled-modes-at-spec : {M : Type 1} → statement M
 reaction-enabled-modes-at-spec = tie.close (tie.spec
-    (λ c κs. search needs)
     (λ c κs. search needs)
     returns)

@@ -6,10 +6,9 @@ use Rattle.schema.proofs.parts.scope_reset_reactions_at.Tie as tie
 
 returns : tie.Need-returns
 unfolding scopeAt
-returns c = simp (c .word-at2 .ensures, c .before .word-at .ensures)
+returns c = simp (c .range-at .ensures)
 
 pub scope-reset-reactions-at-spec : {M : Type 1} → statement M
 scope-reset-reactions-at-spec = tie.close (tie.spec
-    (λ c κs. search needs)
     (λ c κs. search needs)
     returns)

@@ -6,10 +6,9 @@ use Rattle.schema.proofs.parts.scope_startup_reactions_at.Tie as tie
 
 returns : tie.Need-returns
 unfolding scopeAt
-returns c = simp (c .word-at2 .ensures, c .before .word-at .ensures)
+returns c = simp (c .range-at .ensures)
 
 pub scope-startup-reactions-at-spec : {M : Type 1} → statement M
 scope-startup-reactions-at-spec = tie.close (tie.spec
-    (λ c κs. search needs)
     (λ c κs. search needs)
     returns)

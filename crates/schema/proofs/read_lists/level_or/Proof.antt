@@ -1,5 +1,6 @@
 -- `schema::read_lists::level_or` meets its contract. Assumes nothing.
 use Rattle.schema.proofs.Past.{row-past}
+use Rattle.schema.proofs.Width.{second-at}
 use Rattle.schema.specs.Layout as layout
 use denote.Ref.{now}
 use lib.ListN.{length}
@@ -20,12 +21,15 @@ returns c =
 
 returns-2 : tie.Need-returns-2
 unfolding levelAt
-returns-2 c = simp (c .word-of2 .ensures, c .before .word-of .ensures)
+returns-2 c =
+    let w = c .before .before .words-of .ensures in
+    simp (c .low .ensures, c .before .high .ensures, w .first, second-at _ 4 w)
 
 pub level-or-spec : {M : Type 1} → statement M
 level-or-spec =
     tie.close (tie.spec
     returns
+    (λ c κs. search needs)
     (λ c κs. search needs)
     (λ c κs. search needs)
     returns-2)

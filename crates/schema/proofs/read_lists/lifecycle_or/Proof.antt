@@ -1,5 +1,6 @@
 -- `schema::read_lists::lifecycle_or` meets its contract. Assumes nothing.
 use Rattle.schema.proofs.Past.{row-past}
+use Rattle.schema.proofs.Width.{second-at}
 use Rattle.schema.specs.Layout as layout
 use denote.Ref.{now}
 use lib.ListN.{length}
@@ -20,13 +21,16 @@ returns c =
 
 returns-2 : tie.Need-returns-2
 unfolding lifecycleAt
-returns-2 c = simp (c .word-of3 .ensures, c .before .word-of2 .ensures, c .before .before .word-of .ensures)
+returns-2 c =
+    let w = c .before .before .before .words-of .ensures in
+    simp (c .word-of .ensures, c .before .low .ensures, c .before .before .high .ensures, w .first, second-at _ 4 w)
 
 pub lifecycle-or-spec : {M : Type 1} → statement M
 lifecycle-or-spec =
     tie.close
     (tie.spec
     returns
+    (λ c κs. search needs)
     (λ c κs. search needs)
     (λ c κs. search needs)
     (λ c κs. search needs)
