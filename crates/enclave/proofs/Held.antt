@@ -35,3 +35,8 @@ stopped (Refused r) l h d e = remaining-stop l h d refl
 pub held-stop : {f : ℕ → List Check} {i n : ℕ} {b : Bool} {o : Outcome} → Remaining f i n → i < n → Holds (f i) b → not b ≡ true → Decides (f i) o → Decides (run f 0 n) o
 held-stop {b = true} l h d e a = absurd (true≢false (sym e))
 held-stop {b = false} {o = o} l h d e a = stopped o l h a (rw (a .is) (d .is))
+
+-- a run of no items
+pub no-items : (f : ℕ → List Check) {n : ℕ} → n ≡ 0 → Decides (run f 0 n) Passed
+unfolding first run
+no-items f e = rw e (record { is = refl })

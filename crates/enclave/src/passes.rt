@@ -200,7 +200,7 @@ fn item_holds<'a>(
     }
 }
 
-// The items of pass k.
+// The items of pass k, so many.
 fn check_pass<'a>(
     p: &'a [u8],
     batch: &'a [u8],
@@ -208,10 +208,11 @@ fn check_pass<'a>(
     s: &'a TableStarts,
     n: usize,
     k: u32,
+    items: u32,
 ) -> Outcome
+    requires { ⌜ items ≡ passAt k .items (rowsOf (now s)) ⌝ }
     ensures { λ r. ⌜ Decides (passChecks (image (now (p .entry)) (now (batch .entry)) (now (house .entry)) (now (s .entry)) n) (passAt k)) r ⌝ }
 {
-    let items = items_of(s, k);
     let mut i = 0;
     while i < items {
         if !item_holds(p, batch, house, s, n, k, i) {
@@ -237,11 +238,15 @@ pub fn check_passes<'a>(
 {
     let mut k = 0;
     while k < count {
-        let a = check_pass(p, batch, house, s, n, first + k);
-        let Outcome::Passed = a else {
-            return a;
-        };
-        k += 1;
+        let next = k + 1;
+        let items = items_of(s, first + k);
+        if items != 0 {
+            let a = check_pass(p, batch, house, s, n, first + k, items);
+            let Outcome::Passed = a else {
+                return a;
+            };
+        }
+        k = next;
     }
     Outcome::Passed
 }

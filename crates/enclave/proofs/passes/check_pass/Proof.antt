@@ -17,11 +17,11 @@ abbrev μ-loop : tie.MeasureT-loop
 
 returns : tie.Need-returns Inv-loop μ-loop
 unfolding passChecks
-returns c = rw (← c .before .before .before .before .before .items-of .ensures) (held-stop (c .before .before .before .before .loop .inv) (c .before .before .before .loop-test .taken) (c .before .before .item-holds .ensures) (c .before .if1 .taken) (c .check-item .ensures))
+returns c = rw (← c .before .before .before .before .before .before .before .before .pre) (held-stop (c .before .before .before .before .loop .inv) (c .before .before .before .loop-test .taken) (c .before .before .item-holds .ensures) (c .before .if1 .taken) (c .check-item .ensures))
 
 returns-2 : tie.Need-returns-2 Inv-loop μ-loop
 unfolding passChecks
-returns-2 c = rw (← c .before .before .items-of .ensures) (remaining-none (c .before .loop .inv) (c .loop-test .left))
+returns-2 c = rw (← c .before .before .before .before .before .pre) (remaining-none (c .before .loop .inv) (c .loop-test .left))
 
 pub check-pass-spec : {M : Type 1} → statement M
 check-pass-spec =
@@ -29,7 +29,6 @@ check-pass-spec =
     (tie.spec
     Inv-loop
     μ-loop
-    (λ c κs. search needs)
     (λ c. remaining-start _ _)
     (λ c κs. search needs)
     (λ c κs. search needs)

@@ -2,8 +2,10 @@
 use Rattle.enclave.specs.Passes.{passAt, passChecks}
 use Rattle.checks.specs.Image.{image}
 use Rattle.answers.proofs.Loops.{Remaining, remaining-start, remaining-step, remaining-stop, remaining-none}
+use Rattle.enclave.proofs.Held.{no-items}
 use borrow.Author.Needs.{needs}
 use native.Mathlib.Omega.{arith}
+use mathlib.Core.Path.{refl, _∙_, sym}
 use Prim.Native.Nat.{ℕ, _+_, _-_}
 use Rattle.enclave.proofs.passes.check_passes.Statement.{statement}
 use Rattle.enclave.proofs.passes.check_passes.Tie as tie
@@ -14,6 +16,11 @@ Inv-loop p batch house s n first count k₀ k = Remaining (λ (j : ℕ). passChe
 abbrev μ-loop : tie.MeasureT-loop
 μ-loop p batch house s n first count k₀ k = count - k
 
+-- a pass without items
+loop-again-2 : tie.Need-loop-again-2 Inv-loop μ-loop
+unfolding passChecks
+loop-again-2 c = remaining-step (c .before .before .before .loop .inv) (c .before .before .loop-test .taken) (no-items _ (sym (c .before .items-of .ensures) ∙ c .if1 .left)) refl
+
 pub check-passes-spec : {M : Type 1} → statement M
 check-passes-spec =
     tie.close
@@ -22,11 +29,15 @@ check-passes-spec =
     μ-loop
     (λ c. remaining-start _ _)
     (λ c. omega arith)
+    (λ c. omega arith)
     (λ c κs. search needs)
+    (λ c. omega arith)
+    (λ c κs. c .before .items-of .ensures)
     (λ c. search needs)
     (λ c. search needs)
-    (λ c. remaining-stop (c .before .before .before .before .loop .inv) (c .before .before .before .loop-test .taken) (c .before .before .check-pass .ensures) (c .enum-told2 .given .1))
+    (λ c. remaining-stop (c .before .before .before .before .before .before .loop .inv) (c .before .before .before .before .before .loop-test .taken) (c .before .before .check-pass .ensures) (c .enum-told2 .given .1))
     (λ c. omega arith)
+    (λ c. remaining-step (c .before .before .before .before .before .before .loop .inv) (c .before .before .before .before .before .loop-test .taken) (c .before .before .check-pass .ensures) (c .enum-told .given .1))
     (λ c. omega arith)
-    (λ c. remaining-step (c .before .before .before .before .loop .inv) (c .before .before .before .loop-test .taken) (c .before .before .check-pass .ensures) (c .enum-told .given .1))
+    loop-again-2
     (λ c. remaining-none (c .before .loop .inv) (c .loop-test .left)))
