@@ -1,4 +1,4 @@
-//! Links the two static libraries, and tells the program how it was built.
+//! Links the library of the two tests of a text (the binding links the check's), and tells the program how it was built.
 use std::path::PathBuf;
 use std::process::Command;
 use std::{env, fs};
@@ -9,12 +9,10 @@ fn main() {
     let named = env::var("IMAGE_CHECK_LIB_DIR").unwrap_or_else(|_| "../../target/staticlib".into());
     let directory = manifest.join(named);
     println!("cargo:rustc-link-search=native={}", directory.display());
-    for library in ["image_check", "identity_check"] {
-        let archive = directory.join(format!("lib{library}.a"));
-        assert!(fs::exists(&archive).unwrap_or(false), "no {} (IMAGE_CHECK_LIB_DIR)", archive.display());
-        println!("cargo:rerun-if-changed={}", archive.display());
-        println!("cargo:rustc-link-lib=static={library}");
-    }
+    let archive = directory.join("libidentity_check.a");
+    assert!(fs::exists(&archive).unwrap_or(false), "no {} (IMAGE_CHECK_LIB_DIR)", archive.display());
+    println!("cargo:rerun-if-changed={}", archive.display());
+    println!("cargo:rustc-link-lib=static=identity_check");
     println!("cargo:rustc-env=BENCH_RUSTC={}", version());
     println!("cargo:rustc-env=BENCH_OPT_LEVEL={}", env::var("OPT_LEVEL").expect("run by cargo"));
     let flags = env::var("CARGO_ENCODED_RUSTFLAGS").unwrap_or_default();

@@ -9,6 +9,7 @@ mod packs;
 mod refused;
 mod routes;
 mod rows;
+mod rules;
 mod rust;
 mod sample;
 mod show;

@@ -1,5 +1,6 @@
 //! boomerang's check over tables that were read from a pack.
 use crate::decode::Tables;
+use crate::rules;
 use boomerang_runtime::image::{EnclaveImage, EnclaveImageView, FederateImage, FederateImageView};
 use pack::corpus::{Case, Kind};
 use std::hint::black_box;
@@ -10,6 +11,14 @@ pub fn with_decoding(case: &Case) -> Option<bool> {
     match case.kind()? {
         Kind::Enclave => Some(EnclaveImageView::new(tables.image(0)).is_ok()),
         Kind::Federate => Some(federate(tables.federate()?, &tables.images())),
+    }
+}
+
+/// The same with the packing rules first: the answer that is asked for.
+pub fn with_rules(case: &Case) -> Option<bool> {
+    match rules::refusal(case) {
+        Some(_) => Some(false),
+        None => with_decoding(case),
     }
 }
 

@@ -11,16 +11,17 @@ pub fn head(effort: Effort) {
         LEAST => LEAST.to_string(),
         most => format!("{LEAST} to {most}"),
     };
+    println!("r  the Rust with the packing rules, decoding and its check: the work that c does");
     println!("a  the Rust with decoding: pack into tables, its check, tables freed; it has no packing rules");
-    println!("   (where its check takes over half a second, decoding is timed by itself and b added)");
+    println!("   (where its check takes over half a second, rules and decoding are timed apart and b added)");
     println!("b  the Rust's check alone, tables at hand; - where the tables cannot be read");
     println!("c  this check: packing rules, then the check; named: bytes of identities, counted where named");
     println!("{}, opt-level {} {}", env!("BENCH_RUSTC"), env!("BENCH_OPT_LEVEL"), env!("BENCH_FLAGS"));
     println!("{repetitions} repetitions in alternation, medians; ratios with quartiles; time of the thread");
     println!("growth: exponent of time over pack and named bytes, over the last three sizes\n");
     println!(
-        "{:<21} {:>9} {:>13} {:>9} {:>9} {:>9}   {:<22} c/b (quartiles)",
-        "family", "pack", "named", "a", "b", "c", "c/a (quartiles)"
+        "{:<21} {:>9} {:>13} {:>9} {:>9} {:>9} {:>9}   {:<22} {:<22} c/b (quartiles)",
+        "family", "pack", "named", "r", "a", "b", "c", "c/r (quartiles)", "c/a (quartiles)"
     );
 }
 
@@ -75,11 +76,13 @@ fn line(family: &str, sample: &Sample, times: &Times) -> Point {
         false => show::ratio(&Spread::of_ratios(&times.ours, under)),
     };
     println!(
-        "{} {:>9} {:>9} {:>9}   {:<22} {}",
+        "{} {:>9} {:>9} {:>9} {:>9}   {:<22} {:<22} {}",
         start(family, sample),
+        shown(&times.ruled),
         shown(&times.whole),
         shown(&times.check),
         shown(&times.ours),
+        ratio(&times.ruled),
         ratio(&times.whole),
         ratio(&times.check),
     );
