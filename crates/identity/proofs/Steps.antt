@@ -24,6 +24,13 @@ pub every-one : (test : ℕ → Bool) (o k : ℕ) (a b : Bool) → a ≡ every t
 unfolding every
 every-one test o k a b e f = rw (add-one, e, f)
 
+-- four places at once
+pub every-four : (test : ℕ → Bool) (o : ℕ) (a b c d : Bool) → a ≡ test o → b ≡ test (o + 1) → c ≡ test (o + 2) → d ≡ test (o + 3) → (a && b) && (c && d) ≡ every test o 4
+unfolding every
+every-four test o a b c d ea eb ec ed =
+    let z : o + 0 ≡ o = omega arith in
+    rw (ea, eb, ec, ed, z) (sym (and-assoc (test o && test (o + 1)) (test (o + 2)) (test (o + 3))))
+
 -- the loop over blocks
 pub run-none : (test : ℕ → Bool) (o end : ℕ) → o ≤ end → Run test o 0 end
 unfolding every
@@ -31,6 +38,14 @@ run-none test o end h = record { inside = omega arith; all = refl }
 
 pub run-block : {test : ℕ → Bool} {o k end : ℕ} (b : Bool) → Run test o k end → b ≡ every test (o + k) 16 → b ≡ true → o + (k + 16) ≤ end → Run test o (k + 16) end
 run-block {test} {o} {k} b p e t h = record { inside = h; all = rw (every-add test o k 16, p .all) (sym e ∙ t) }
+
+-- a block by itself, and one place
+pub run-whole : (test : ℕ → Bool) (o k end : ℕ) (b : Bool) → b ≡ every test o k → b ≡ true → o + k ≤ end → Run test o k end
+run-whole test o k end b e t h = record { inside = h; all = sym e ∙ t }
+
+pub run-one : (test : ℕ → Bool) (o end : ℕ) → test o ≡ true → o < end → Run test o 1 end
+unfolding every
+run-one test o end e h = record { inside = omega arith; all = rw add-zero e }
 
 -- what passes over each place of a run passes over all of them
 pub along : (test : ℕ → Bool) (P : ℕ → Type 0) (o k : ℕ) → ((j : ℕ) → o ≤ j → j < o + k → test j ≡ true → P j → P (j + 1)) → every test o k ≡ true → P o → P (o + k)

@@ -1,15 +1,19 @@
 -- Laws of truth values, and of the test whether a number lies in a range. Assumes nothing.
 use Prim.Native.Nat.{ℕ, _<_, _≤_}
-use mathlib.Core.Bool.{Bool, true, false, _&&_, _||_, true≢false}
+use mathlib.Core.Bool.{Bool, true, false, not, _&&_, _||_, true≢false}
 use mathlib.Core.Path.{_≡_, refl, _∙_, sym}
 use lib.Dec.{leb, eqb}
 use native.Mathlib.Omega.{arith}
-use borrow.Author.Tests.{leb-true, leb-false, le-leb, lt-leb, eqb-true, eqb-false}
+use borrow.Author.Tests.{not-false, leb-true, leb-false, le-leb, lt-leb, eqb-true, eqb-false}
 use Rattle.identity.specs.Within.{within}
 
 abbrev pub cases {ℓ} : {X : Type ℓ} (b : Bool) → (b ≡ true → X) → (b ≡ false → X) → X
 cases true t f = t refl
 cases false t f = f refl
+
+-- a test that holds, where its negation was asked
+pub tested : (b t : Bool) → b ≡ t → not b ≡ false → t ≡ true
+tested b t e n = sym e ∙ not-false b n
 
 pub both : (x y : Bool) → x && y ≡ true → (x ≡ true) × (y ≡ true)
 both true y e = (refl, e)

@@ -12,7 +12,7 @@ use Rattle.identity.specs.declared.Decoded.the-variants.{Scalar, Malform
 use Rattle.identity.specs.Utf8.{Scalars, some, none, before, decode, isSome, utf8, scalarAt}
 use Rattle.identity.specs.Unicode.{control, whiteSpace}
 use Rattle.identity.specs.Identity.{noControl, last, validScalars, validText, validId}
-use Rattle.identity.specs.Scan.{visible, printableAt, Run, Stepped, idFrom}
+use Rattle.identity.specs.Scan.{printableAt, visibleAt, Run, Stepped, idFrom}
 use Rattle.identity.proofs.Tests.{cases, and-false, within-true, within-in}
 use Rattle.identity.proofs.Unicode.{printable-no-control, visible-no-space}
 use Rattle.identity.proofs.Steps.{stopped, moved, moved-along, Kept}
@@ -123,20 +123,26 @@ over-printable s j l h e =
     let g : eqb (j + 1) (length s) ≡ false = ne-eqb (j + 1) (length s) (λ q. omega arith) in
     over-scalar s j (omega arith) (ascii-scalar s j (omega arith)) (rw (printable-no-control (getD s j 0) e, f, g))
 
-pub id-run : (s : List ℕ) (i k : ℕ) → (i ≡ 0 → ⊥) → Run (printableAt s) i k (length s - 1) → (k ≡ 0 → ⊥) → Stepped (idFrom s) (length s) i k
+pub id-run : (s : List ℕ) (i k : ℕ) → (i ≡ 0 → k ≡ 0) → Run (printableAt s) i k (length s - 1) → (k ≡ 0 → ⊥) → Stepped (idFrom s) (length s) i k
 id-run s i k n p d =
     let h = p .inside in
     moved-along (idFrom s) (length s) i (printableAt s) k (omega arith) (p .all) d
-    (λ j a l e. over-printable s j (omega arith) (omega arith) e)
+    (λ j a l e. over-printable s j (later (λ z. d (n z)) a) (omega arith) e)
+  where
+    later : {j : ℕ} → (i ≡ 0 → ⊥) → i ≤ j → 0 < j
+    later m a = omega arith
 
--- a step over one visible byte
-pub id-visible : (s : List ℕ) (i : ℕ) (b : Bool) → i < length s → b ≡ visible (getD s i 0) → b ≡ true → Stepped (idFrom s) (length s) i 1
-id-visible s i b h e t =
-    let v = sym e ∙ t in
-    let r = within-true 0x21 0x7E (getD s i 0) v in
-    let c : control (getD s i 0) ≡ false = printable-no-control (getD s i 0) (within-in 0x20 0x7E (getD s i 0) (omega arith) (omega arith)) in
-    let o = over-scalar s i h (ascii-scalar s i (omega arith)) (rw (c, visible-no-space (getD s i 0) v) (and-false (eqb i 0 || eqb (i + 1) (length s)))) in
-    moved (idFrom s) (length s) i 1 (omega arith) (omega arith) o
+-- a step over a run of visible bytes, at an edge or not
+over-visible : (s : List ℕ) (j : ℕ) → j < length s → visibleAt s j ≡ true → idFrom s j ≡ idFrom s (j + 1)
+over-visible s j h v =
+    let r = within-true 0x21 0x7E (getD s j 0) v in
+    let c : control (getD s j 0) ≡ false = printable-no-control (getD s j 0) (within-in 0x20 0x7E (getD s j 0) (omega arith) (omega arith)) in
+    over-scalar s j h (ascii-scalar s j (omega arith)) (rw (c, visible-no-space (getD s j 0) v) (and-false (eqb j 0 || eqb (j + 1) (length s))))
+
+pub id-visible : (s : List ℕ) (i k : ℕ) → Run (visibleAt s) i k (length s) → (k ≡ 0 → ⊥) → Stepped (idFrom s) (length s) i k
+id-visible s i k p d =
+    let h = p .inside in
+    moved-along (idFrom s) (length s) i (visibleAt s) k h (p .all) d (λ j _ l e. over-visible s j (omega arith) e)
 
 -- a step over one scalar: x is what `utf8_scalar` found at i; c and b say whether the scalar v is a control, and white space
 module _ (s : List ℕ) (i : ℕ) (x : Decoded) (h : i < length s) (e : x ≡ scalarAt s i) where
@@ -165,7 +171,7 @@ module _ (s : List ℕ) (i : ℕ) (x : Decoded) (h : i < length s) (e : x ≡ sc
   pub id-inner : {v w : ℕ} (c : Bool) → x ≡ Scalar v w → c ≡ control v → c ≡ false → eqb i 0 || eqb (i + w) (length s) ≡ false → Stepped (idFrom s) (length s) i w
   id-inner c f ec n inner = keep f (rw (← ec, n, inner))
 
-pub ruleset id-laws = (id-run, id-visible, id-malformed, id-control, id-space, id-edge, id-inner)
+pub ruleset id-laws = (id-run, id-malformed, id-control, id-space, id-edge, id-inner)
 
 pub id-start : (s : List ℕ) → Kept (validId s) (idFrom s) (length s) 0
 id-start s = record { inside = omega arith; same = refl }

@@ -33,12 +33,15 @@ unfoldable pub every : (ℕ → Bool) → ℕ → ℕ → Bool
 every test o zero = true
 every test o (suc k) = every test o k && test (o + k)
 
--- Tests of a place: the byte there is ASCII, it is printable, two texts have the same byte there.
+-- Tests of a place: the byte there is ASCII, it is printable, it is visible, two texts have the same byte there.
 abbrev pub asciiAt : List ℕ → ℕ → Bool
 asciiAt s i = ascii (getD s i 0)
 
 abbrev pub printableAt : List ℕ → ℕ → Bool
 printableAt s i = printable (getD s i 0)
+
+abbrev pub visibleAt : List ℕ → ℕ → Bool
+visibleAt s i = visible (getD s i 0)
 
 abbrev pub sameAt : List ℕ → List ℕ → ℕ → Bool
 sameAt a b i = eqb (getD a i 0) (getD b i 0)

@@ -2,14 +2,14 @@
 ghost use mathlib.Core.Path.{_≡_};
 ghost use Prim.Native.Nat.{_+_, _-_, _<_, _≤_};
 ghost use lib.ListN.{length, getD};
-ghost use mathlib.Core.Bool.{_&&_, cond};
+ghost use mathlib.Core.Bool.{true, _&&_, cond};
 ghost use lib.Dec.{leb};
 ghost use Rattle.identity.specs.Utf8.{allowed, follows, checked, valueOfTwo, valueOfThree, valueOfFour, twoBytes, threeBytes, fourBytes, scalarAt, utf8};
 ghost use Rattle.identity.specs.Unicode.{control, whiteSpace};
 ghost use Rattle.identity.specs.Identity.{validId};
 ghost use Rattle.identity.specs.Order.{compared, sign};
 ghost use Rattle.identity.specs.Text.{partAt, partPointer, namedText, placeInside, identityText, identityPointer};
-ghost use Rattle.identity.specs.Scan.{widthOf, ascii, printable, visible, every, asciiAt, printableAt, sameAt, Run, Stepped, utf8From, idFrom, Tied};
+ghost use Rattle.identity.specs.Scan.{widthOf, ascii, printable, visible, every, asciiAt, printableAt, visibleAt, sameAt, Run, Stepped, utf8From, idFrom, Tied};
 
 // The place of an identity: which lent text, where it starts, how long it is.
 pub struct IdentityPlace {
@@ -218,14 +218,11 @@ fn printable_block(text: &[u8], at: usize) -> bool
     all
 }
 
-// How many bytes from `at` on are ASCII, by blocks of 16; 0 where the first is not.
+// How many bytes from `at` on are ASCII, by blocks of 16.
 fn ascii_blocks(text: &[u8], at: usize) -> usize
     requires { ⌜ at < length (now text) ⌝ }
     ensures { λ r. ⌜ Run (asciiAt (now (text .entry))) at r (length (now (text .entry))) ⌝ }
 {
-    if !ascii(text[at]) {
-        return 0;
-    }
     let left = text.len() - at;
     let mut k = 0;
     while k + 16 <= left {
@@ -291,16 +288,48 @@ fn scalar_width(text: &[u8], at: usize) -> usize
     0
 }
 
-// How many bytes from `at` on are whole scalars: blocks of ASCII, or one scalar; 0 where there is none.
+// Whether the four bytes from `at` are ASCII, and whether they are visible: for short texts and the ends of long ones.
+fn ascii_four(text: &[u8], at: usize) -> bool
+    requires { ⌜ at + 4 ≤ length (now text) ⌝ }
+    ensures { λ r. ⌜ r ≡ every (asciiAt (now (text .entry))) at 4 ⌝ }
+{
+    (ascii(text[at]) & ascii(text[at + 1])) & (ascii(text[at + 2]) & ascii(text[at + 3]))
+}
+
+fn visible_four(text: &[u8], at: usize) -> bool
+    requires { ⌜ at + 4 ≤ length (now text) ⌝ }
+    ensures { λ r. ⌜ r ≡ every (visibleAt (now (text .entry))) at 4 ⌝ }
+{
+    (visible(text[at]) & visible(text[at + 1])) & (visible(text[at + 2]) & visible(text[at + 3]))
+}
+
+// How many of the bytes from `at` on, the first of which is ASCII, are taken at once: 4 of ASCII, or 1.
+fn ascii_few(text: &[u8], at: usize) -> usize
+    requires { ⌜ at < length (now text) ⌝ }
+    requires { ⌜ asciiAt (now text) at ≡ true ⌝ }
+    ensures { λ r. ⌜ Stepped (utf8From (now (text .entry))) (length (now (text .entry))) at r ⌝ }
+{
+    if 4 <= text.len() - at {
+        if ascii_four(text, at) {
+            return 4;
+        }
+    }
+    1
+}
+
+// How many bytes from `at` on are whole scalars: blocks of ASCII, a few bytes of it, or one scalar; 0 where there is none.
 fn utf8_step(text: &[u8], at: usize) -> usize
     requires { ⌜ at < length (now text) ⌝ }
     ensures { λ r. ⌜ Stepped (utf8From (now (text .entry))) (length (now (text .entry))) at r ⌝ }
 {
+    if !ascii(text[at]) {
+        return scalar_width(text, at);
+    }
     let blocks = ascii_blocks(text, at);
     if blocks != 0 {
         return blocks;
     }
-    scalar_width(text, at)
+    ascii_few(text, at)
 }
 
 // Whether a text is UTF-8.
@@ -338,7 +367,33 @@ fn id_scalar(text: &[u8], at: usize) -> usize
     width
 }
 
-// How many bytes from `at` on may stand there in an identity: blocks of printable ASCII inside the text, or one scalar; 0 where none may.
+// The blocks of printable bytes from `at` on; none from the text's first byte, which may not be a blank.
+fn inner_blocks(text: &[u8], at: usize) -> usize
+    requires { ⌜ at < length (now text) ⌝ }
+    ensures { λ r. ⌜ (at ≡ 0 → r ≡ 0) ⌝ }
+    ensures { λ r. ⌜ Run (printableAt (now (text .entry))) at r (length (now (text .entry)) - 1) ⌝ }
+{
+    if at == 0 {
+        return 0;
+    }
+    printable_blocks(text, at)
+}
+
+// How many of the bytes from `at` on, the first of which is visible, are taken at once: 4 visible ones, or 1.
+fn visible_few(text: &[u8], at: usize) -> usize
+    requires { ⌜ at < length (now text) ⌝ }
+    requires { ⌜ visibleAt (now text) at ≡ true ⌝ }
+    ensures { λ r. ⌜ Stepped (idFrom (now (text .entry))) (length (now (text .entry))) at r ⌝ }
+{
+    if 4 <= text.len() - at {
+        if visible_four(text, at) {
+            return 4;
+        }
+    }
+    1
+}
+
+// How many bytes from `at` on may stand there in an identity: blocks of printable ASCII inside the text, a few visible bytes, or one scalar; 0 where none may.
 fn id_step(text: &[u8], at: usize) -> usize
     requires { ⌜ at < length (now text) ⌝ }
     ensures { λ r. ⌜ Stepped (idFrom (now (text .entry))) (length (now (text .entry))) at r ⌝ }
@@ -346,14 +401,11 @@ fn id_step(text: &[u8], at: usize) -> usize
     if !visible(text[at]) {
         return id_scalar(text, at);
     }
-    if at == 0 {
-        return 1;
-    }
-    let blocks = printable_blocks(text, at);
+    let blocks = inner_blocks(text, at);
     if blocks != 0 {
         return blocks;
     }
-    1
+    visible_few(text, at)
 }
 
 // Whether a text is a valid identity: UTF-8, not empty, no control, white space neither first nor last.

@@ -22,9 +22,6 @@ ascii-blocks-spec =
     Inv-loop
     μ-loop
     (λ c. search needs)
-    (λ c κs. search needs)
-    (λ c. run-none _ _ _ (omega arith))
-    (λ c. search needs)
     (λ c. run-none _ _ _ (omega arith))
     (λ c. search needs)
     (λ c. search needs)
@@ -32,5 +29,5 @@ ascii-blocks-spec =
     (λ c. search needs)
     (λ c. search needs)
     (λ c. search needs)
-    (λ c. run-block _ (c .before .before .before .loop .inv) (c .before .ascii-block .ensures) (not-false _ (c .if2 .left)) (omega arith))
+    (λ c. run-block _ (c .before .before .before .loop .inv) (c .before .ascii-block .ensures) (not-false _ (c .if1 .left)) (omega arith))
     (λ c. search needs))

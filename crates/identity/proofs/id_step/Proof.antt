@@ -1,6 +1,6 @@
 -- `identity::id_step` meets its contract. Each answer is a law of proofs/Valid.antt. Assumes nothing.
 use borrow.Author.Needs.{needs}
-use borrow.Author.Tests.{not-false}
+use Rattle.identity.proofs.Tests.{tested}
 use Rattle.identity.proofs.Valid.{id-laws}
 use Rattle.identity.proofs.id_step.Statement.{statement}
 use Rattle.identity.proofs.id_step.Tie as tie
@@ -13,7 +13,7 @@ id-step-spec =
     (λ c κs. search needs)
     (λ c κs. search needs)
     (λ c. search needs)
-    (λ c. search (id-laws, not-false))
     (λ c κs. search needs)
     (λ c. search id-laws)
-    (λ c. search (id-laws, not-false)))
+    (λ c κs. search (tested, needs))
+    (λ c. search needs))

@@ -5,7 +5,7 @@ use Rattle.answers.proofs.Loops.{Remaining, remaining-start, remaining-step, re
 use Rattle.enclave.proofs.Held.{no-items}
 use borrow.Author.Needs.{needs}
 use native.Mathlib.Omega.{arith}
-use mathlib.Core.Path.{refl, _∙_, sym}
+use mathlib.Core.Path.{_≡_, refl, _∙_, sym}
 use Prim.Native.Nat.{ℕ, _+_, _-_}
 use Rattle.enclave.proofs.passes.check_passes.Statement.{statement}
 use Rattle.enclave.proofs.passes.check_passes.Tie as tie
@@ -19,7 +19,9 @@ abbrev μ-loop : tie.MeasureT-loop
 -- a pass without items
 loop-again-2 : tie.Need-loop-again-2 Inv-loop μ-loop
 unfolding passChecks
-loop-again-2 c = remaining-step (c .before .before .before .loop .inv) (c .before .before .loop-test .taken) (no-items _ (sym (c .before .items-of .ensures) ∙ c .if1 .left)) refl
+loop-again-2 c =
+    let none : c .before .items-of .result ≡ 0 = omega arith in
+    remaining-step (c .before .before .before .loop .inv) (c .before .before .loop-test .taken) (no-items _ (sym (c .before .items-of .ensures) ∙ none)) refl
 
 pub check-passes-spec : {M : Type 1} → statement M
 check-passes-spec =
