@@ -12,7 +12,8 @@ use Rattle.schema.specs.Number.{number}
 use Rattle.schema.specs.Layout.{Layout, plain, layouts, bytes, offset, fieldAt}
 use Rattle.schema.specs.Rows.{byteOf, bitOf}
 use Rattle.packing.proofs.Tests.{cases, both}
-use Rattle.packing.specs.Shape.{layoutOf}
+use Rattle.packing.specs.declared.shape.Governed.{Governed}
+use Rattle.packing.specs.Shape.{layoutOf, used, governed}
 use Rattle.packing.specs.Packing.{packFits, identityAt}
 
 -- k is none of the n numbers from 0 on: what the last arm of a match over them knows
@@ -28,7 +29,7 @@ pub no-table : (t : ℕ) → NoneOf 25 t → layoutOf t ≡ plain []
 unfolding layouts
 no-table t h = List·getD-eq-default layouts (plain []) (beyond 25 t h)
 
--- a test holds of every layout of a list, and of every number below k
+-- a test holds of every layout of a list
 every : (Layout → Bool) → List Layout → Bool
 every f [] = true
 every f (l ∷ ls) = f l && every f ls
@@ -39,6 +40,40 @@ every-at f [] d t e h = h
 every-at f (l ∷ ls) d zero e h = both (f l) (every f ls) e .0
 every-at f (l ∷ ls) d (suc t) e h = every-at f ls d t (both (f l) (every f ls) e .1) h
 
+-- a layout uses whole words of the record
+wordsUsed : Layout → Bool
+wordsUsed l = ltb 0 (used l) && (leb (used l) 64 && eqb (used l % 4) 0)
+
+pub words-used : (t : ℕ) → (0 < used (layoutOf t)) × ((used (layoutOf t) ≤ 64) × (used (layoutOf t) % 4 ≡ 0))
+unfolding layouts every wordsUsed
+words-used t =
+    let a = both _ _ (every-at wordsUsed layouts (plain []) t refl refl) in
+    let b = both _ _ (a .1) in
+    (ltb-true _ _ (a .0), (leb-true _ _ (b .0), eqb-true _ _ (b .1)))
+
+-- the fields that a bit governs are none, a W or two, inside the record
+inside : Governed → Bool
+inside g = eqb (g .len % 4) 0 && (leb (g .len) 8 && leb (g .offset + g .len) 64)
+
+abbrev Inside : Governed → Type 0
+Inside g = (g .len % 4 ≡ 0) × ((g .len ≤ 8) × (g .offset + g .len ≤ 64))
+
+inside-facts : (g : Governed) → inside g ≡ true → Inside g
+unfolding inside
+inside-facts g e =
+    let a = both _ _ e in
+    let b = both _ _ (a .1) in
+    (eqb-true _ _ (a .0), (leb-true _ _ (b .0), leb-true _ _ (b .1)))
+
+pub inside-0 : (t : ℕ) → Inside (governed 0 (layoutOf t))
+unfolding layouts every inside
+inside-0 t = inside-facts (governed 0 (layoutOf t)) (every-at (λ l. inside (governed 0 l)) layouts (plain []) t refl refl)
+
+pub inside-1 : (t : ℕ) → Inside (governed 1 (layoutOf t))
+unfolding layouts every inside
+inside-1 t = inside-facts (governed 1 (layoutOf t)) (every-at (λ l. inside (governed 1 l)) layouts (plain []) t refl refl)
+
+-- a test holds of every number below k
 below : (ℕ → Bool) → ℕ → Bool
 below f zero = true
 below f (suc k) = below f k && f k

@@ -1,13 +1,13 @@
--- Bytes that are zero, one by one and by parts. Assumes nothing.
+-- Bytes that are zero, by parts and by their number. Assumes nothing.
 use Prim.Native.Nat.{ℕ, zero, suc, _+_, _*_, _-_, _/_, _%_, _<_, _≤_}
-use mathlib.Core.Bool.{Bool, true, false, _&&_, and-true, and-false, and-assoc}
-use mathlib.Core.Path.{_≡_, refl, _∙_, ap, sym}
+use mathlib.Core.Bool.{Bool, true, _&&_, and-true, and-assoc}
+use mathlib.Core.Path.{_≡_, refl, _∙_, sym}
 use mathlib.Core.List.{List}
 use native.Mathlib.Nat.{add-zero, add-suc, zero-mul, one-mul, div-eq-of-lt, div-eq-sub-div}
 use native.Mathlib.Omega.{arith}
 use lib.Dec.{eqb}
 use lib.ListN.{getD}
-use borrow.Author.Tests.{eq-eqb, ne-eqb}
+use borrow.Author.Tests.{ne-eqb}
 use Rattle.schema.specs.Number.{number}
 use Rattle.packing.specs.Clean.{zeros}
 
@@ -22,14 +22,14 @@ zeros-add p o i (suc k) =
 zeros-cut : (p : List ℕ) (o i k n : ℕ) → i + k ≡ n → zeros p o n ≡ (zeros p o i && zeros p (o + i) k)
 zeros-cut p o i k n e = rw (sym e) (zeros-add p o i k)
 
--- k bytes in parts of 32, 16 and 8, and the rest
-pub zeros-parts : (p : List ℕ) (o k : ℕ) → (zeros p o (k / 32 * 32) && (zeros p (o + k / 32 * 32) (k % 32 / 16 * 16) && (zeros p (o + k / 16 * 16) (k % 16 / 8 * 8) && zeros p (o + k / 8 * 8) (k % 8)))) ≡ zeros p o k
-zeros-parts p o k =
+-- k bytes, whole words, in parts of 32, 16, 8 and 4
+pub zeros-parts : (p : List ℕ) (o k : ℕ) → k % 4 ≡ 0 → (zeros p o (k / 32 * 32) && (zeros p (o + k / 32 * 32) (k % 32 / 16 * 16) && (zeros p (o + k / 16 * 16) (k % 16 / 8 * 8) && zeros p (o + k / 8 * 8) (k % 8 / 4 * 4)))) ≡ zeros p o k
+zeros-parts p o k w =
     let d : k / 32 * 32 + k % 32 / 16 * 16 ≡ k / 16 * 16 = omega arith in
     let e : k / 16 * 16 + k % 16 / 8 * 8 ≡ k / 8 * 8 = omega arith in
-    let f : k / 8 * 8 + k % 8 ≡ k = omega arith in
+    let f : k / 8 * 8 + k % 8 / 4 * 4 ≡ k = omega arith in
     sym
-    (rw (zeros-cut p o (k / 8 * 8) (k % 8) k f, zeros-cut p o (k / 16 * 16) (k % 16 / 8 * 8) (k / 8 * 8) e, zeros-cut p o (k / 32 * 32) (k % 32 / 16 * 16) (k / 16 * 16) d)
+    (rw (zeros-cut p o (k / 8 * 8) (k % 8 / 4 * 4) k f, zeros-cut p o (k / 16 * 16) (k % 16 / 8 * 8) (k / 8 * 8) e, zeros-cut p o (k / 32 * 32) (k % 32 / 16 * 16) (k / 16 * 16) d)
     (simp and-assoc))
 
 -- the part of m bytes that k bytes have: none, or one
@@ -55,38 +55,3 @@ pub zeros-number : (p : List ℕ) (o k : ℕ) → zeros p o k ≡ eqb (number k 
 unfolding zeros number
 zeros-number p o zero = refl
 zeros-number p o (suc k) = rw (zeros-number p o k) (last-byte (number k p o) (getD p (o + k) 0))
-
--- the first i bytes are zero
-pub record ZeroBytes (p : List ℕ) (o i : ℕ) : Type 0 where
-  pub so : zeros p o i ≡ true
-
-pub no-bytes : (p : List ℕ) (o : ℕ) → ZeroBytes p o 0
-unfolding zeros
-no-bytes p o = record { so = refl }
-
--- k bytes more
-longer : (p : List ℕ) (o i k : ℕ) → zeros p o i ≡ true → zeros p (o + i) k ≡ true → zeros p o (i + k) ≡ true
-longer p o i k z e = zeros-add p o i k ∙ rw z e
-
--- a stray byte among them
-stray : (p : List ℕ) (o i k n : ℕ) → i + k ≤ n → zeros p (o + i) k ≡ false → zeros p o n ≡ false
-stray p o i k n h e =
-    let m : n ≡ i + (k + (n - (i + k))) = omega arith in
-    ap (zeros p o) m ∙ zeros-add p o i (k + (n - (i + k))) ∙ rw (zeros-add p (o + i) k (n - (i + k)), e) (and-false (zeros p o i))
-
-byte-zero : (p : List ℕ) (o : ℕ) → zeros p o 1 ≡ eqb (getD p o 0) 0
-unfolding zeros
-byte-zero p o = rw add-zero
-
-pub byte-more : {p : List ℕ} {o i : ℕ} (x : ℕ) → ZeroBytes p o i → x ≡ getD p (o + i) 0 → x ≡ 0 → ZeroBytes p o (i + 1)
-byte-more {p} {o} {i} x c e z = record { so = longer p o i 1 (c .so) (byte-zero p (o + i) ∙ eq-eqb _ 0 (sym e ∙ z)) }
-
-pub byte-stray : {p : List ℕ} {o i : ℕ} (n x : ℕ) → ZeroBytes p o i → x ≡ getD p (o + i) 0 → (x ≡ 0 → ⊥) → i < n → false ≡ zeros p o n
-byte-stray {p} {o} {i} n x c e z h = sym (stray p o i 1 n (omega arith) (byte-zero p (o + i) ∙ ne-eqb _ 0 (λ q. z (e ∙ q))))
-
-pub bytes-all : {p : List ℕ} {o i : ℕ} (n : ℕ) → ZeroBytes p o i → i ≤ n → n ≤ i → true ≡ zeros p o n
-bytes-all {p} {o} {i} n c l h =
-    let e : i ≡ n = omega arith in
-    sym (rw e at (c .so))
-
-pub ruleset byte-laws = (byte-more, byte-stray, bytes-all)

@@ -1,7 +1,7 @@
 // A record without stray bytes, bits or kinds, whose absent fields are zero (refusal 4).
 ghost use mathlib.Core.Path.{_≡_};
 ghost use mathlib.Core.Bool.{true, not, _&&_, _||_, cond};
-ghost use Prim.Native.Nat.{_+_, _*_, _-_, _/_, _<_, _≤_, _^_};
+ghost use Prim.Native.Nat.{_+_, _*_, _-_, _/_, _%_, _<_, _≤_};
 ghost use lib.ListN.{length};
 ghost use lib.Dec.{ltb, leb, eqb};
 ghost use Rattle.schema.specs.Rows.{byteOf};
@@ -9,7 +9,6 @@ ghost use Rattle.packing.specs.Shape.{shapeOf};
 ghost use Rattle.packing.specs.Clean.{zeros, clean};
 use crate::shape::Governed;
 use crate::shape::Shape;
-use schema::number::byte;
 use schema::number::long_inside;
 use schema::number::word_inside;
 use schema::read::bit;
@@ -18,20 +17,6 @@ fn wide(x: u8) -> usize
     ensures { λ r. ⌜ (r ≡ x) × (r < 256) ⌝ }
 {
     x as usize
-}
-
-// Whether the k bytes from `at` are zero, one by one.
-fn zero_bytes(p: &[u8], at: usize, k: usize) -> bool
-    ensures { λ r. ⌜ r ≡ zeros (now (p .entry)) at k ⌝ }
-{
-    let mut i = 0;
-    while i < k {
-        if byte(p, at, i) != 0 {
-            return false;
-        }
-        i += 1;
-    }
-    true
 }
 
 // Whether the 8, 16 or 32 bytes from `at`, which lie inside, are zero.
@@ -56,7 +41,7 @@ fn zeros_32(p: &[u8], at: usize) -> bool
     zeros_16(p, at) & zeros_16(p, at + 16)
 }
 
-// The parts of k bytes from `at`: 32 where they are as many, then 16, then 8.
+// The parts of k bytes from `at`: 32 where they are as many, then 16, then 8, then 4.
 fn zeros_by_32(p: &[u8], at: usize, k: usize) -> bool
     requires { ⌜ (k < 64) × (at + k ≤ length (now p)) ⌝ }
     ensures { λ r. ⌜ r ≡ zeros (now (p .entry)) at (k / 32 * 32) ⌝ }
@@ -87,43 +72,28 @@ fn zeros_by_8(p: &[u8], at: usize, k: usize) -> bool
     zeros_8(p, at)
 }
 
-// Whether the k bytes from `at`, fewer than eight, are zero; most often they are a W.
-fn zero_rest(p: &[u8], at: usize, k: usize) -> bool
-    requires { ⌜ at + k ≤ length (now p) ⌝ }
+fn zeros_by_4(p: &[u8], at: usize, k: usize) -> bool
+    requires { ⌜ (k < 8) × (at + k ≤ length (now p)) ⌝ }
+    ensures { λ r. ⌜ r ≡ zeros (now (p .entry)) at (k / 4 * 4) ⌝ }
+{
+    if k < 4 {
+        return true;
+    }
+    word_inside(p, at) == 0
+}
+
+// Whether a field of k bytes is zero: of none, a W or two.
+fn zero_field(p: &[u8], at: usize, k: usize) -> bool
+    requires { ⌜ (k % 4 ≡ 0) × ((k ≤ 8) × (at + k ≤ length (now p))) ⌝ }
     ensures { λ r. ⌜ r ≡ zeros (now (p .entry)) at k ⌝ }
 {
+    if k == 0 {
+        return true;
+    }
     if k == 4 {
         return word_inside(p, at) == 0;
     }
-    zero_bytes(p, at, k)
-}
-
-// Whether the k bytes from `at`, which lie inside, are zero.
-fn zeros_inside(p: &[u8], at: usize, k: usize) -> bool
-    requires { ⌜ at + k ≤ length (now p) ⌝ }
-    ensures { λ r. ⌜ r ≡ zeros (now (p .entry)) at k ⌝ }
-{
-    if 64 <= k {
-        return zero_bytes(p, at, k);
-    }
-    let past_32 = at + k / 32 * 32;
-    let past_16 = at + k / 16 * 16;
-    let past_8 = at + k / 8 * 8;
-    zeros_by_32(p, at, k)
-        & (zeros_by_16(p, past_32, k % 32)
-            & (zeros_by_8(p, past_16, k % 16) & zero_rest(p, past_8, k % 8)))
-}
-
-// Whether the k bytes from `at` are zero; a byte past the end is.
-fn zeros(p: &[u8], at: usize, k: usize) -> bool
-    ensures { λ r. ⌜ r ≡ zeros (now (p .entry)) at k ⌝ }
-{
-    if at < p.len() {
-        if k <= p.len() - at {
-            return zeros_inside(p, at, k);
-        }
-    }
-    zero_bytes(p, at, k)
+    zeros_8(p, at)
 }
 
 // Bytes 1 to 3.
@@ -135,28 +105,28 @@ fn head_clean(shape: Shape, bits: u8, kind: u8, last: u8) -> bool
 
 // The bytes past the last field.
 fn tail_clean(p: &[u8], start: usize, used: u8) -> bool
-    requires { ⌜ start + 64 ≤ length (now p) ⌝ }
+    requires { ⌜ (start + 64 ≤ length (now p)) × ((0 < used) × ((used ≤ 64) × (used % 4 ≡ 0))) ⌝ }
     ensures { λ r. ⌜ r ≡ zeros (now (p .entry)) (start + used) (64 - used) ⌝ }
 {
-    let used = wide(used);
-    if used < 64 {
-        return zeros_inside(p, start + used, 64 - used);
-    }
-    true
+    let k = 64 - wide(used);
+    let at = start + wide(used);
+    let past_32 = at + k / 32 * 32;
+    let past_16 = at + k / 16 * 16;
+    let past_8 = at + k / 8 * 8;
+    zeros_by_32(p, at, k)
+        & (zeros_by_16(p, past_32, k % 32)
+            & (zeros_by_8(p, past_16, k % 16) & zeros_by_4(p, past_8, k % 8)))
 }
 
 // The fields that a presence bit governs.
 fn absent_clean(present: bool, p: &[u8], start: usize, governed: Governed) -> bool
-    requires { ⌜ start + 512 < 2 ^ 64 ⌝ }
+    requires { ⌜ (start + 64 ≤ length (now p)) × ((governed .len % 4 ≡ 0) × ((governed .len ≤ 8) × (governed .offset + governed .len ≤ 64))) ⌝ }
     ensures { λ r. ⌜ r ≡ (present || zeros (now (p .entry)) (start + governed .offset) (governed .len)) ⌝ }
 {
     if present {
         return true;
     }
-    if governed.len == 0 {
-        return true;
-    }
-    zeros(p, start + wide(governed.offset), wide(governed.len))
+    zero_field(p, start + wide(governed.offset), wide(governed.len))
 }
 
 // The bit and the D of an action's timing.

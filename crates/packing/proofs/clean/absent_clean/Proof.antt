@@ -1,21 +1,15 @@
 -- `packing::clean::absent_clean` meets its contract. Assumes nothing.
 use borrow.Author.Needs.{needs}
-use Rattle.packing.specs.Clean.{zeros}
 use Rattle.packing.proofs.clean.absent_clean.Statement.{statement}
 use Rattle.packing.proofs.clean.absent_clean.Tie as tie
-
-returns-2 : tie.Need-returns-2
-unfolding zeros
-returns-2 c = rw (c .before .before .if1 .left, c .if2 .taken)
 
 pub absent-clean-spec : {M : Type 1} → statement M
 absent-clean-spec =
     tie.close
     (tie.spec
     (λ c. search needs)
-    returns-2
     (λ c κs. search needs)
     (λ c. search needs)
     (λ c κs. search needs)
     (λ c κs. search needs)
-    (λ c. rw (c .before .before .before .before .before .if1 .left, c .zeros .ensures, c .before .wide2 .ensures .0, c .before .before .wide .ensures .0)))
+    (λ c. rw (c .before .before .before .if1 .left, c .zero-field .ensures, c .before .wide2 .ensures .0, c .before .before .wide .ensures .0)))

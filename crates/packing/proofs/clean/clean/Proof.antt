@@ -1,6 +1,7 @@
 -- `packing::clean::clean` meets its contract. Assumes nothing.
 use borrow.Author.Needs.{needs}
 use Rattle.packing.specs.Clean.{clean}
+use Rattle.packing.proofs.Tables.{words-used, inside-0, inside-1}
 use Rattle.packing.proofs.clean.clean.Statement.{statement}
 use Rattle.packing.proofs.clean.clean.Tie as tie
 
@@ -24,8 +25,8 @@ clean-spec =
     (λ c. search needs)
     (λ c. search needs)
     (λ c κs. search needs)
-    (λ c κs. search needs)
-    (λ c κs. search needs)
-    (λ c κs. search needs)
+    (λ c κs. (search needs, rw (c .before .before .before .before .before .before .before .pre .1 .1) (words-used _)))
+    (λ c κs. (search needs, rw (c .before .before .before .before .before .before .before .before .pre .1 .1) (inside-0 _)))
+    (λ c κs. (search needs, rw (c .before .before .before .before .before .before .before .before .before .pre .1 .1) (inside-1 _)))
     (λ c κs. search needs)
     returns)
