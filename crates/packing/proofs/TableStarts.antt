@@ -13,6 +13,7 @@ use borrow.Author.Tests.{ltb-true, ltb-false, leb-false, lt-ltb, le-ltb, lt-leb}
 use Rattle.schema.specs.Rows.{byteOf}
 use Rattle.packing.proofs.Tests.{cases}
 use Rattle.packing.specs.Starts.{recordsOf, reaches, firstReaching, tableStart, startsBelow, tableStarts}
+use Rattle.packing.specs.Runs.{OneTable}
 
 reaching : (a b : Bool) (d e : ℕ) → not a || (b || leb d e) ≡ false → (a ≡ true) × (e < d)
 reaching true true d e h = absurd (true≢false h)
@@ -62,13 +63,6 @@ pub record Short (p : List ℕ) (t a k : ℕ) : Type 0 where
 
 pub short-none : (p : List ℕ) (t a : ℕ) → Short p t a a
 short-none p t a = record { from = omega arith; none = λ j l h. absurd (omega arith) }
-
-pub short-more : {p : List ℕ} {t a k : ℕ} → Short p t a k → reaches p t k ≡ false → Short p t a (k + 1)
-short-more {p} {t} {a} {k} s r =
-    record {
-      from = let g = s .from in omega arith;
-      none = λ j l h. cases (ltb j k) (λ b. s .none j l (ltb-true j k b)) (λ b. let g = ltb-false j k b in let e : j ≡ k = omega arith in rw e r);
-    }
 
 pub short-later : {p : List ℕ} {t a k : ℕ} → Short p t a k → Short p (t + 1) a k
 short-later {p} {t} {a} {k} s =
@@ -143,6 +137,27 @@ module _ (p : List ℕ) (rows : ℕ) where
       let m : t < 26 = omega arith in
       rw (starts-at t m, starts-at u h) (first-rises p t u (recordsOf p) rows l)
 
+table-at : (p : List ℕ) (n : ℕ) → byteOf p n 0 ≡ getD p (n * 64) 0
+table-at p n = rw add-zero
+
+-- the loop over the records of one table
+pub one-start : (p : List ℕ) (k : ℕ) → k < recordsOf p → OneTable p k (k + 1)
+one-start p k h =
+    record {
+      after = omega arith;
+      inside = omega arith;
+      same = λ j l g. let e : j ≡ k = omega arith in rw e;
+    }
+
+pub one-more : {p : List ℕ} {k r : ℕ} (a b : ℕ) → OneTable p k r → r < recordsOf p → a ≡ getD p (k * 64) 0 → b ≡ getD p (r * 64) 0 → b ≡ a → OneTable p k (r + 1)
+one-more {p} {k} {r} a b o h e f q =
+    let g = o .after in
+    record {
+      after = omega arith;
+      inside = omega arith;
+      same = λ j l m. cases (ltb j r) (λ c. o .same j l (ltb-true j r c)) (λ c. let n = ltb-false j r c in let i : j ≡ r = omega arith in rw i (table-at p r ∙ sym f ∙ q ∙ e ∙ sym (table-at p k)));
+    }
+
 -- the loop: the starts of the tables below t stand in s, and no record before k reaches table t
 pub record Fixed (p : List ℕ) (rows : ℕ) (s : List ℕ) (t k : ℕ) : Type 0 where
   pub within : t ≤ 26
@@ -155,10 +170,28 @@ pub fixed-none : (p : List ℕ) (rows : ℕ) (s : List ℕ) → length s ≡ 26 
 unfolding startsBelow
 fixed-none p rows s e = record { within = omega arith; sized = e; done = refl; near = omega arith; short = short-none p 0 rows }
 
-pub fixed-move : {p : List ℕ} {rows : ℕ} {s : List ℕ} {t k : ℕ} → Fixed p rows s t k → reaches p t k ≡ false → Fixed p rows s t (k + 1)
-fixed-move {p} {rows} {s} {t} {k} f r =
-    let g = not-reached p t k r .0 in
-    record { within = f .within; sized = f .sized; done = f .done; near = omega arith; short = short-more (f .short) r }
+-- records of one table reach the same tables
+same-reach : (p : List ℕ) (t j k : ℕ) → j < recordsOf p → k < recordsOf p → byteOf p j 0 ≡ byteOf p k 0 → reaches p t j ≡ reaches p t k
+same-reach p t j k g h e = rw (lt-ltb j (recordsOf p) g, lt-ltb k (recordsOf p) h, e)
+
+pub fixed-move : {p : List ℕ} {rows : ℕ} {s : List ℕ} {t k r : ℕ} → Fixed p rows s t k → reaches p t k ≡ false → OneTable p k r → Fixed p rows s t r
+fixed-move {p} {rows} {s} {t} {k} {r} f e o =
+    let g = not-reached p t k e .0 in
+    let a = o .after in
+    let b = o .inside in
+    let d = f .short .from in
+    record {
+      within = f .within;
+      sized = f .sized;
+      done = f .done;
+      near = omega arith;
+      short = record {
+        from = omega arith;
+        none = λ j l h. cases (ltb j k)
+            (λ c. f .short .none j l (ltb-true j k c))
+            (λ c. let m = ltb-false j k c in same-reach p t j k (omega arith) g (o .same j m h) ∙ e);
+      };
+    }
 
 pub fixed-next : {p : List ℕ} {rows : ℕ} {s : List ℕ} {t k : ℕ} → Fixed p rows s t k → t < 26 → reaches p t k ≡ true → Fixed p rows (set s t k) (t + 1) k
 unfolding startsBelow
