@@ -1,29 +1,35 @@
 // Readers of single fields of a row, by slice and record number: what a check needs of a row that another row names.
 ghost use mathlib.Core.Path.{_≡_};
-ghost use Prim.Native.Nat.{_+_, _*_, _<_};
-ghost use Rattle.schema.specs.Number.{number};
-ghost use Rattle.schema.specs.Rows.{byteOf, enclaveAt, reactorAt, actionAt, portAt, reactionAt, scopeAt, bindingAt, lifecycleAt};
+ghost use Prim.Native.Nat.{_+_, _*_, _/_, _%_, _<_};
+ghost use lib.Dec.{eqb};
+ghost use Rattle.schema.specs.Number.{number, Words};
+ghost use Rattle.schema.specs.Rows.{byteOf, enclaveAt, reactorAt, actionAt, portAt, reactionAt, scopeAt, startupAt, lifecycleAt, routeAt, bindingAt};
 use crate::index::ActionIndex;
 use crate::index::BindingKind;
 use crate::index::MaybeMode;
 use crate::index::MaybeScope;
+use crate::index::PortIndex;
 use crate::index::ReactorIndex;
+use crate::index::RouteDirection;
 use crate::lists::LevelReactionImage;
+use crate::number::high;
+use crate::number::low;
+use crate::number::words;
 use crate::read::bit;
 use crate::read::byte_of;
+use crate::read::direction_of;
 use crate::read::kind_of;
-use crate::read::long_of;
 use crate::read::maybe_mode;
 use crate::read::maybe_scope;
-use crate::read::range_of;
 use crate::read::word_of;
+use crate::read::words_of;
 use identity::IdentityPlace;
 use range::IndexSpan;
 use range::ModeSpan;
 use range::SliceRange;
 
-// Byte j of record n, the W and the D from byte j, for any record number.
-pub fn byte_at(p: &[u8], n: usize, j: usize) -> u8
+// Byte j of a record that is cut off or past the pack, and the two W's from byte j there: the rare case, apart from the readers below.
+fn byte_past(p: &[u8], n: usize, j: usize) -> u8
     requires { ⌜ j < 64 ⌝ }
     ensures { λ r. ⌜ r ≡ byteOf (now (p .entry)) n j ⌝ }
 {
@@ -33,24 +39,52 @@ pub fn byte_at(p: &[u8], n: usize, j: usize) -> u8
     byte_of(p, n, j)
 }
 
-pub fn word_at(p: &[u8], n: usize, j: usize) -> u32
+fn words_past(p: &[u8], n: usize, j: usize) -> u64
     requires { ⌜ j < 64 ⌝ }
-    ensures { λ r. ⌜ r ≡ number 4 (now (p .entry)) (n * 64 + j) ⌝ }
+    ensures { λ r. ⌜ Words (now (p .entry)) (n * 64 + j) r ⌝ }
 {
     if p.len() / 64 < n {
         return 0;
     }
-    word_of(p, n, j)
+    words(p, n * 64 + j)
+}
+
+// Byte j of record n, the W, two W's and the D from byte j, for any record number.
+pub fn byte_at(p: &[u8], n: usize, j: usize) -> u8
+    requires { ⌜ j < 64 ⌝ }
+    ensures { λ r. ⌜ r ≡ byteOf (now (p .entry)) n j ⌝ }
+{
+    if n < p.len() / 64 {
+        return byte_of(p, n, j);
+    }
+    byte_past(p, n, j)
+}
+
+pub fn word_at(p: &[u8], n: usize, j: usize) -> u32
+    requires { ⌜ j < 64 ⌝ }
+    ensures { λ r. ⌜ r ≡ number 4 (now (p .entry)) (n * 64 + j) ⌝ }
+{
+    if n < p.len() / 64 {
+        return word_of(p, n, j);
+    }
+    high(words_past(p, n, j))
+}
+
+pub fn words_at(p: &[u8], n: usize, j: usize) -> u64
+    requires { ⌜ j < 64 ⌝ }
+    ensures { λ r. ⌜ Words (now (p .entry)) (n * 64 + j) r ⌝ }
+{
+    if n < p.len() / 64 {
+        return words_of(p, n, j);
+    }
+    words_past(p, n, j)
 }
 
 pub fn long_at(p: &[u8], n: usize, j: usize) -> u64
     requires { ⌜ j < 64 ⌝ }
     ensures { λ r. ⌜ r ≡ number 8 (now (p .entry)) (n * 64 + j) ⌝ }
 {
-    if p.len() / 64 < n {
-        return 0;
-    }
-    long_of(p, n, j)
+    words_at(p, n, j)
 }
 
 // The start and the length from byte j of record n.
@@ -58,14 +92,16 @@ fn range_at(p: &[u8], n: usize, j: usize) -> SliceRange
     requires { ⌜ j < 60 ⌝ }
     ensures { λ r. ⌜ r ≡ record { start = number 4 (now (p .entry)) (n * 64 + j); len = number 4 (now (p .entry)) (n * 64 + (j + 4)) } ⌝ }
 {
-    if p.len() / 64 < n {
-        return SliceRange { start: 0, len: 0 };
+    let pair = words_at(p, n, j);
+    SliceRange {
+        start: high(pair),
+        len: low(pair),
     }
-    range_of(p, n, j)
 }
 
-pub fn enclave_id_at(p: &[u8], n: usize) -> IdentityPlace
-    ensures { λ r. ⌜ r ≡ enclaveAt (now (p .entry)) n .«enclave_id» ⌝ }
+// The first identity of record n, whose house bit is bit 0.
+fn place_at(p: &[u8], n: usize) -> IdentityPlace
+    ensures { λ r. ⌜ r ≡ record { house = eqb (byteOf (now (p .entry)) n 1 / 1 % 2) 1; start = number 4 (now (p .entry)) (n * 64 + 4); len = number 4 (now (p .entry)) (n * 64 + (4 + 4)) } ⌝ }
 {
     let house = bit(byte_at(p, n, 1), 1);
     let part = range_at(p, n, 4);
@@ -74,6 +110,12 @@ pub fn enclave_id_at(p: &[u8], n: usize) -> IdentityPlace
         start: part.start,
         len: part.len,
     }
+}
+
+pub fn enclave_id_at(p: &[u8], n: usize) -> IdentityPlace
+    ensures { λ r. ⌜ r ≡ enclaveAt (now (p .entry)) n .«enclave_id» ⌝ }
+{
+    place_at(p, n)
 }
 
 pub fn state_slots_at(p: &[u8], n: usize) -> u32
@@ -181,6 +223,13 @@ pub fn scope_shutdown_reactions_at(p: &[u8], n: usize) -> SliceRange
     range_at(p, n, 56)
 }
 
+// The action of a startup.
+pub fn startup_action_at(p: &[u8], n: usize) -> ActionIndex
+    ensures { λ r. ⌜ r ≡ startupAt (now (p .entry)) n .action ⌝ }
+{
+    ActionIndex(word_at(p, n, 4))
+}
+
 // The action of a lifecycle reaction, and its level and reaction.
 pub fn lifecycle_action_at(p: &[u8], n: usize) -> ActionIndex
     ensures { λ r. ⌜ r ≡ lifecycleAt (now (p .entry)) n .action ⌝ }
@@ -198,4 +247,28 @@ pub fn binding_kind_at(p: &[u8], n: usize) -> BindingKind
     ensures { λ r. ⌜ r ≡ bindingAt (now (p .entry)) n .kind ⌝ }
 {
     kind_of(byte_at(p, n, 2))
+}
+
+pub fn binding_id_at(p: &[u8], n: usize) -> IdentityPlace
+    ensures { λ r. ⌜ r ≡ bindingAt (now (p .entry)) n .id ⌝ }
+{
+    place_at(p, n)
+}
+
+pub fn route_boundary_at(p: &[u8], n: usize) -> IdentityPlace
+    ensures { λ r. ⌜ r ≡ routeAt (now (p .entry)) n .boundary ⌝ }
+{
+    place_at(p, n)
+}
+
+pub fn route_port_at(p: &[u8], n: usize) -> PortIndex
+    ensures { λ r. ⌜ r ≡ routeAt (now (p .entry)) n .«local_port» ⌝ }
+{
+    PortIndex(word_at(p, n, 12))
+}
+
+pub fn route_direction_at(p: &[u8], n: usize) -> RouteDirection
+    ensures { λ r. ⌜ r ≡ routeAt (now (p .entry)) n .direction ⌝ }
+{
+    direction_of(bit(byte_at(p, n, 2), 1))
 }

@@ -228,7 +228,7 @@ pub fn kind_of(k: u8) -> BindingKind
     }
 }
 
-fn direction_of(outbound: bool) -> RouteDirection
+pub fn direction_of(outbound: bool) -> RouteDirection
     ensures { λ r. ⌜ r ≡ directionOf outbound ⌝ }
 {
     if outbound {

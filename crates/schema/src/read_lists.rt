@@ -1,5 +1,6 @@
 // Readers of the list tables 8 to 22, by slice and record number. A record past the pack is the empty row.
 ghost use mathlib.Core.Path.{_≡_};
+ghost use Prim.Native.Nat.{_/_, _%_};
 ghost use Rattle.schema.specs.Rows.{empty, indexOf, levelOf, startupOf, lifecycleOf, indexAt, levelAt, startupAt, lifecycleAt};
 use crate::index::ActionIndex;
 use crate::index::ModeIndex;
@@ -26,33 +27,46 @@ use crate::lists::TimerStartupAction;
 use crate::lists::TimerStartupImage;
 use crate::number::high;
 use crate::number::low;
+use crate::number::word_inside;
+use crate::number::words;
+use crate::number::words_inside;
 use crate::read::long_of;
 use crate::read::word_of;
-use crate::read::words_of;
 
-// One index. Past the pack it is `past`, which the row kind gives; so also below.
+// One index. Past the pack it is `past`, which the row kind gives; so also below. A record inside is one test.
 fn index_or(p: &[u8], n: usize, past: u32) -> u32
     requires { ⌜ past ≡ empty indexOf ⌝ }
     ensures { λ r. ⌜ r ≡ indexAt (now (p .entry)) n ⌝ }
 {
+    if n < p.len() / 64 {
+        return word_inside(p, n * 64 + 4);
+    }
     if p.len() / 64 < n {
         return past;
     }
-    word_of(p, n, 4)
+    high(words(p, n * 64 + 4))
+}
+
+fn level_of(pair: u64) -> LevelReactionImage
+    ensures { λ r. ⌜ r ≡ record { level = pair / 4294967296; reaction = record { 0 = pair % 4294967296 } } ⌝ }
+{
+    LevelReactionImage {
+        level: high(pair),
+        reaction: ReactionIndex(low(pair)),
+    }
 }
 
 fn level_or(p: &[u8], n: usize, past: LevelReactionImage) -> LevelReactionImage
     requires { ⌜ past ≡ empty levelOf ⌝ }
     ensures { λ r. ⌜ r ≡ levelAt (now (p .entry)) n ⌝ }
 {
+    if n < p.len() / 64 {
+        return level_of(words_inside(p, n * 64 + 4));
+    }
     if p.len() / 64 < n {
         return past;
     }
-    let pair = words_of(p, n, 4);
-    LevelReactionImage {
-        level: high(pair),
-        reaction: ReactionIndex(low(pair)),
-    }
+    level_of(words(p, n * 64 + 4))
 }
 
 fn startup_or(p: &[u8], n: usize, past: TimerStartupImage) -> TimerStartupImage
@@ -68,21 +82,27 @@ fn startup_or(p: &[u8], n: usize, past: TimerStartupImage) -> TimerStartupImage
     }
 }
 
+fn lifecycle_of(pair: u64, action: u32) -> LifecycleReactionImage
+    ensures { λ r. ⌜ r ≡ record { reaction = record { level = pair / 4294967296; reaction = record { 0 = pair % 4294967296 } }; action = record { 0 = action } } ⌝ }
+{
+    let reaction = level_of(pair);
+    LifecycleReactionImage {
+        reaction,
+        action: ActionIndex(action),
+    }
+}
+
 fn lifecycle_or(p: &[u8], n: usize, past: LifecycleReactionImage) -> LifecycleReactionImage
     requires { ⌜ past ≡ empty lifecycleOf ⌝ }
     ensures { λ r. ⌜ r ≡ lifecycleAt (now (p .entry)) n ⌝ }
 {
+    if n < p.len() / 64 {
+        return lifecycle_of(words_inside(p, n * 64 + 4), word_inside(p, n * 64 + 12));
+    }
     if p.len() / 64 < n {
         return past;
     }
-    let pair = words_of(p, n, 4);
-    LifecycleReactionImage {
-        reaction: LevelReactionImage {
-            level: high(pair),
-            reaction: ReactionIndex(low(pair)),
-        },
-        action: ActionIndex(word_of(p, n, 12)),
-    }
+    lifecycle_of(words(p, n * 64 + 4), high(words(p, n * 64 + 12)))
 }
 
 pub fn level_at(p: &[u8], n: usize) -> LevelReactionImage

@@ -6,12 +6,9 @@ use Rattle.schema.proofs.parts.enclave_id_at.Tie as tie
 
 returns : tie.Need-returns
 unfolding enclaveAt
-returns c = simp (c .range-at .ensures, c .before .bit .ensures, c .before .before .byte-at .ensures)
+returns c = simp (c .place-at .ensures)
 
 pub enclave-id-at-spec : {M : Type 1} → statement M
-enclave-id-at-spec =
-    tie.close (tie.spec
-    (λ c κs. search needs)
-    (λ c κs. search needs)
+enclave-id-at-spec = tie.close (tie.spec
     (λ c κs. search needs)
     returns)

@@ -13,18 +13,30 @@ use Rattle.schema.proofs.read_lists.index_or.Tie as tie
 
 returns : tie.Need-returns
 unfolding indexAt
-returns c =
-    let a = c .before .before .args in
-    let h : length (now (a .p)) ≤ a .n * 64 = omega arith in
-    c .before .before .pre ∙ row-past indexOf layout.indexes (now (a .p)) (a .n) h
+returns c = simp (c .word-inside .ensures)
 
 returns-2 : tie.Need-returns-2
 unfolding indexAt
-returns-2 c = simp (c .word-of .ensures)
+returns-2 c =
+    let a = c .before .before .before .args in
+    let h : length (now (a .p)) ≤ a .n * 64 = omega arith in
+    c .before .before .before .pre ∙ row-past indexOf layout.indexes (now (a .p)) (a .n) h
+
+returns-3 : tie.Need-returns-3
+unfolding indexAt
+returns-3 c = simp (c .high .ensures, c .before .words .ensures .first)
 
 pub index-or-spec : {M : Type 1} → statement M
 index-or-spec =
-    tie.close (tie.spec
-    returns
+    tie.close
+    (tie.spec
+    (λ c. search needs)
+    (λ c. search needs)
     (λ c κs. search needs)
-    returns-2)
+    returns
+    returns-2
+    (λ c. search needs)
+    (λ c. search needs)
+    (λ c κs. search needs)
+    (λ c κs. search needs)
+    returns-3)

@@ -15,21 +15,34 @@ use Rattle.schema.proofs.read_lists.level_or.Tie as tie
 returns : tie.Need-returns
 unfolding levelAt
 returns c =
-    let a = c .before .before .args in
-    let h : length (now (a .p)) ≤ a .n * 64 = omega arith in
-    c .before .before .pre ∙ row-past levelOf layout.levels (now (a .p)) (a .n) h
+    let w = c .before .words-inside .ensures in
+    simp (c .level-of .ensures, w .first, second-at _ 4 w)
 
 returns-2 : tie.Need-returns-2
 unfolding levelAt
 returns-2 c =
-    let w = c .before .before .words-of .ensures in
-    simp (c .low .ensures, c .before .high .ensures, w .first, second-at _ 4 w)
+    let a = c .before .before .before .args in
+    let h : length (now (a .p)) ≤ a .n * 64 = omega arith in
+    c .before .before .before .pre ∙ row-past levelOf layout.levels (now (a .p)) (a .n) h
+
+returns-3 : tie.Need-returns-3
+unfolding levelAt
+returns-3 c =
+    let w = c .before .words .ensures in
+    simp (c .level-of2 .ensures, w .first, second-at _ 4 w)
 
 pub level-or-spec : {M : Type 1} → statement M
 level-or-spec =
-    tie.close (tie.spec
+    tie.close
+    (tie.spec
+    (λ c. search needs)
+    (λ c. search needs)
+    (λ c κs. search needs)
+    (λ c κs. search needs)
     returns
+    returns-2
+    (λ c. search needs)
+    (λ c. search needs)
     (λ c κs. search needs)
     (λ c κs. search needs)
-    (λ c κs. search needs)
-    returns-2)
+    returns-3)

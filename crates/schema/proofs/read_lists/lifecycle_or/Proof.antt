@@ -15,23 +15,41 @@ use Rattle.schema.proofs.read_lists.lifecycle_or.Tie as tie
 returns : tie.Need-returns
 unfolding lifecycleAt
 returns c =
-    let a = c .before .before .args in
-    let h : length (now (a .p)) ≤ a .n * 64 = omega arith in
-    c .before .before .pre ∙ row-past lifecycleOf layout.lifecycles (now (a .p)) (a .n) h
+    let w = c .before .before .words-inside .ensures in
+    simp (c .lifecycle-of .ensures, c .before .word-inside .ensures, w .first, second-at _ 4 w)
 
 returns-2 : tie.Need-returns-2
 unfolding lifecycleAt
 returns-2 c =
-    let w = c .before .before .before .words-of .ensures in
-    simp (c .word-of .ensures, c .before .low .ensures, c .before .before .high .ensures, w .first, second-at _ 4 w)
+    let a = c .before .before .before .args in
+    let h : length (now (a .p)) ≤ a .n * 64 = omega arith in
+    c .before .before .before .pre ∙ row-past lifecycleOf layout.lifecycles (now (a .p)) (a .n) h
+
+returns-3 : tie.Need-returns-3
+unfolding lifecycleAt
+returns-3 c =
+    let w = c .before .before .before .words .ensures in
+    simp (c .lifecycle-of2 .ensures, c .before .high .ensures, c .before .before .words2 .ensures .first, w .first, second-at _ 4 w)
 
 pub lifecycle-or-spec : {M : Type 1} → statement M
 lifecycle-or-spec =
     tie.close
     (tie.spec
+    (λ c. search needs)
+    (λ c. search needs)
+    (λ c κs. search needs)
+    (λ c. search needs)
+    (λ c. search needs)
+    (λ c κs. search needs)
+    (λ c κs. search needs)
     returns
+    returns-2
+    (λ c. search needs)
+    (λ c. search needs)
+    (λ c κs. search needs)
+    (λ c. search needs)
+    (λ c. search needs)
     (λ c κs. search needs)
     (λ c κs. search needs)
     (λ c κs. search needs)
-    (λ c κs. search needs)
-    returns-2)
+    returns-3)
