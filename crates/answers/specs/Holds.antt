@@ -1,10 +1,10 @@
--- Auxiliary: what the contracts of the private functions cite, and no public contract. Assumes nothing.
+-- Whether checks pass, as a test: what functions answer that leave the refusal to another. Assumes nothing.
 use mathlib.Core.Bool.{Bool, true, false}
 use mathlib.Core.Path.{_≡_}
 use mathlib.Core.List.{List}
 use Rattle.answers.specs.declared.Outcome.{Outcome}
 use Rattle.answers.specs.declared.Outcome.the-variants.{Passed, Refused}
 use Rattle.answers.specs.Checks.{Check, first}
 
 unfoldable pub isPassed : Outcome → Bool
 isPassed Passed = true

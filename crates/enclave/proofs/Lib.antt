@@ -1,3 +1,1 @@
-pub mod Held
-pub mod Numbered
 pub mod Whole

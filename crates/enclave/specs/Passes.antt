@@ -3,7 +3,6 @@ use Prim.Native.Nat.{ℕ, _+_}
 use mathlib.Core.Bool.{cond}
 use mathlib.Core.List.{List, [], _∷_, _++_}
 use lib.Dec.{ltb, eqb}
-use lib.ListN.{getD}
 use Rattle.answers.specs.Fields as field
 use Rattle.answers.specs.Checks.{Check, run}
 use Rattle.checks.specs.Image.{Image}
@@ -30,9 +29,6 @@ over t f = record { items = λ rows. rows t; checks = f }
 
 abbrev pub times : ℕ → (Image → ℕ → List Check) → Pass
 times n f = record { items = λ rows. n; checks = f }
-
-abbrev pub noPass : Pass
-noPass = times 0 (λ m i. [])
 
 -- the tables whose length is checked: 2 to 7, 23 and 24
 abbrev pub lengthTable : ℕ → ℕ
@@ -101,7 +97,3 @@ checksOf m (f ∷ fs) = passChecks m f ++ checksOf m fs
 
 unfoldable pub enclaveChecks : Image → List Check
 enclaveChecks m = checksOf m passes
-
--- pass k of those that one dispatch serves: all but the scopes' and the parents'
-unfoldable pub passAt : ℕ → Pass
-passAt k = getD (rowPasses ++ listPasses) k noPass

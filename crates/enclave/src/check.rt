@@ -38,7 +38,7 @@ pub fn check_image<'a>(
 ) -> EnclaveAnswer
     ensures { λ r. ⌜ r ≡ imageResult (image (now (p .entry)) (now (batch .entry)) (now (house .entry)) (now (s .entry)) n) ⌝ }
 {
-    let rows = crate::passes::check_passes(p, batch, house, s, n, 0, 8);
+    let rows = crate::passes::check_rows(p, batch, house, s, n);
     let Outcome::Passed = rows else {
         return refused(rows);
     };
@@ -50,7 +50,7 @@ pub fn check_image<'a>(
     let Parents::Links(links) = parents else {
         return cycle(parents);
     };
-    let lists = crate::passes::check_passes(p, batch, house, s, n, 8, 21);
+    let lists = crate::passes::check_lists(p, batch, house, s, n);
     let Outcome::Passed = lists else {
         return refused(lists);
     };

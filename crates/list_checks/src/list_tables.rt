@@ -1,11 +1,12 @@
-// The checks of list tables' entries, and of the ranges of rows that lead to them.
+// The checks of the list tables of one index or one startup, and of the enabled modes of reactions.
 ghost use mathlib.Core.Path.{_≡_};
 ghost use mathlib.Core.List.{[], _∷_};
 ghost use Prim.Native.Nat.{_<_};
-ghost use Rattle.answers.specs.Checks.{Decides};
+ghost use Rattle.answers.specs.Checks.{run, Decides};
 ghost use Rattle.checks.specs.Image.{image, rowsOf, startOf, modesAt};
 ghost use Rattle.checks.specs.Refs.{refTo};
-ghost use Rattle.list_checks.specs.ListTables.{indexChecks, startupChecks, actionTriggerChecks, portTriggerChecks, enabledModeChecks, enabledModesChecks, scopeListChecks, levelEntryChecks, lifecycleEntryChecks, shutdownReactionChecks, indexOrderChecks, shutdownActionChecks, indexesAt};
+ghost use Rattle.list_checks.specs.ListTables.{indexChecks, startupChecks, enabledModeChecks, enabledModesChecks, indexOrderChecks, shutdownActionChecks, indexesAt};
+ghost use Rattle.list_checks.specs.FirstPast.{firstWord, FirstPast};
 use answers::Outcome;
 use answers::Refusal;
 use answers::field;
@@ -19,41 +20,21 @@ use schema::index::ReactorIndex;
 use schema::lists::ReactionAction;
 use schema::lists::ReactionEffectPort;
 use schema::lists::ReactionMode;
-use schema::lists::ReactionTrigger;
 use schema::lists::ReactionUsePort;
 use schema::lists::ScopeDescendant;
 use schema::lists::ScopeLogicalAction;
-use schema::lists::ScopeResetReaction;
-use schema::lists::ScopeShutdownReaction;
-use schema::lists::ScopeStartupReaction;
 use schema::lists::ScopeTimerStartup;
 use schema::lists::ShutdownAction;
-use schema::lists::ShutdownReaction;
 use schema::lists::StartupAction;
 use schema::lists::TimerStartupAction;
 use schema::parts;
 use schema::read;
 use schema::read_lists;
 use schema::rows::ActionImage;
+use schema::rows::ModeImage;
 use schema::rows::PortImage;
 use schema::rows::ReactionImage;
 use schema::rows::ScopeImage;
-
-// The triggers of action i.
-pub fn check_action_triggers(p: &[u8], s: &TableStarts, i: u32) -> Outcome
-    ensures { λ r. ⌜ Decides (actionTriggerChecks (image (now (p .entry)) [] [] (now (s .entry)) 0) i) r ⌝ }
-{
-    let range = parts::action_triggers_at(p, refs::row_number(s, ActionImage::TABLE, i));
-    lists::validate_levels(p, s, ReactionTrigger::TABLE, range.start, range.len)
-}
-
-// The triggers of port i.
-pub fn check_port_triggers(p: &[u8], s: &TableStarts, i: u32) -> Outcome
-    ensures { λ r. ⌜ Decides (portTriggerChecks (image (now (p .entry)) [] [] (now (s .entry)) 0) i) r ⌝ }
-{
-    let range = parts::port_triggers_at(p, refs::row_number(s, PortImage::TABLE, i));
-    lists::validate_levels(p, s, ReactionTrigger::TABLE, range.start, range.len)
-}
 
 // A port that an entry names is there.
 pub fn check_port(s: &TableStarts, table: u8, index: u32, field: u8, key: PortIndex) -> Outcome
@@ -77,7 +58,25 @@ fn check_mode(s: &TableStarts, table: u8, index: u32, key: ModeIndex) -> Outcome
     Outcome::Passed
 }
 
-pub fn check_use_port(p: &[u8], s: &TableStarts, i: u32) -> Outcome
+// The first entry of `table` whose index, its first W, is past the table `target`; the table's length where there is none.
+fn first_past(p: &[u8], s: &TableStarts, table: u8, target: u8) -> u32
+    requires { ⌜ (table < 25) × (target < 25) ⌝ }
+    ensures { λ r. ⌜ FirstPast (firstWord (now (p .entry)) (now (s .entry)) table) (rowsOf (now (s .entry)) target) (rowsOf (now (s .entry)) table) r ⌝ }
+{
+    let rows = refs::rows_of(s, table);
+    let bound = refs::rows_of(s, target);
+    let mut i = 0;
+    while i < rows {
+        if bound <= parts::word_at(p, refs::row_number(s, table, i), 4) {
+            return i;
+        }
+        i += 1;
+    }
+    rows
+}
+
+// Each table's entries are looked through at once; the one that is refused is looked up as itself.
+fn check_use_port(p: &[u8], s: &TableStarts, i: u32) -> Outcome
     ensures { λ r. ⌜ Decides (indexChecks 9 30 4 (image (now (p .entry)) [] [] (now (s .entry)) 0) i) r ⌝ }
 {
     let n = refs::row_number(s, ReactionUsePort::TABLE, i);
@@ -85,7 +84,17 @@ pub fn check_use_port(p: &[u8], s: &TableStarts, i: u32) -> Outcome
     check_port(s, ReactionUsePort::TABLE, i, field::PORT, entry.0)
 }
 
-pub fn check_effect_port(p: &[u8], s: &TableStarts, i: u32) -> Outcome
+pub fn check_use_ports(p: &[u8], s: &TableStarts) -> Outcome
+    ensures { λ r. ⌜ Decides (run (indexChecks 9 30 4 (image (now (p .entry)) [] [] (now (s .entry)) 0)) 0 (rowsOf (now (s .entry)) 9)) r ⌝ }
+{
+    let i = first_past(p, s, ReactionUsePort::TABLE, PortImage::TABLE);
+    if i < refs::rows_of(s, ReactionUsePort::TABLE) {
+        return check_use_port(p, s, i);
+    }
+    Outcome::Passed
+}
+
+fn check_effect_port(p: &[u8], s: &TableStarts, i: u32) -> Outcome
     ensures { λ r. ⌜ Decides (indexChecks 10 30 4 (image (now (p .entry)) [] [] (now (s .entry)) 0) i) r ⌝ }
 {
     let n = refs::row_number(s, ReactionEffectPort::TABLE, i);
@@ -93,7 +102,17 @@ pub fn check_effect_port(p: &[u8], s: &TableStarts, i: u32) -> Outcome
     check_port(s, ReactionEffectPort::TABLE, i, field::PORT, entry.0)
 }
 
-pub fn check_reaction_action(p: &[u8], s: &TableStarts, i: u32) -> Outcome
+pub fn check_effect_ports(p: &[u8], s: &TableStarts) -> Outcome
+    ensures { λ r. ⌜ Decides (run (indexChecks 10 30 4 (image (now (p .entry)) [] [] (now (s .entry)) 0)) 0 (rowsOf (now (s .entry)) 10)) r ⌝ }
+{
+    let i = first_past(p, s, ReactionEffectPort::TABLE, PortImage::TABLE);
+    if i < refs::rows_of(s, ReactionEffectPort::TABLE) {
+        return check_effect_port(p, s, i);
+    }
+    Outcome::Passed
+}
+
+fn check_reaction_action(p: &[u8], s: &TableStarts, i: u32) -> Outcome
     ensures { λ r. ⌜ Decides (indexChecks 11 29 3 (image (now (p .entry)) [] [] (now (s .entry)) 0) i) r ⌝ }
 {
     let n = refs::row_number(s, ReactionAction::TABLE, i);
@@ -101,7 +120,17 @@ pub fn check_reaction_action(p: &[u8], s: &TableStarts, i: u32) -> Outcome
     lists::check_action(s, ReactionAction::TABLE, i, entry.0)
 }
 
-pub fn check_reaction_mode(p: &[u8], s: &TableStarts, i: u32) -> Outcome
+pub fn check_reaction_actions(p: &[u8], s: &TableStarts) -> Outcome
+    ensures { λ r. ⌜ Decides (run (indexChecks 11 29 3 (image (now (p .entry)) [] [] (now (s .entry)) 0)) 0 (rowsOf (now (s .entry)) 11)) r ⌝ }
+{
+    let i = first_past(p, s, ReactionAction::TABLE, ActionImage::TABLE);
+    if i < refs::rows_of(s, ReactionAction::TABLE) {
+        return check_reaction_action(p, s, i);
+    }
+    Outcome::Passed
+}
+
+fn check_reaction_mode(p: &[u8], s: &TableStarts, i: u32) -> Outcome
     ensures { λ r. ⌜ Decides (indexChecks 12 20 6 (image (now (p .entry)) [] [] (now (s .entry)) 0) i) r ⌝ }
 {
     let n = refs::row_number(s, ReactionMode::TABLE, i);
@@ -109,7 +138,17 @@ pub fn check_reaction_mode(p: &[u8], s: &TableStarts, i: u32) -> Outcome
     check_mode(s, ReactionMode::TABLE, i, entry.0)
 }
 
-pub fn check_descendant(p: &[u8], s: &TableStarts, i: u32) -> Outcome
+pub fn check_reaction_modes(p: &[u8], s: &TableStarts) -> Outcome
+    ensures { λ r. ⌜ Decides (run (indexChecks 12 20 6 (image (now (p .entry)) [] [] (now (s .entry)) 0)) 0 (rowsOf (now (s .entry)) 12)) r ⌝ }
+{
+    let i = first_past(p, s, ReactionMode::TABLE, ModeImage::TABLE);
+    if i < refs::rows_of(s, ReactionMode::TABLE) {
+        return check_reaction_mode(p, s, i);
+    }
+    Outcome::Passed
+}
+
+fn check_descendant(p: &[u8], s: &TableStarts, i: u32) -> Outcome
     ensures { λ r. ⌜ Decides (indexChecks 13 6 7 (image (now (p .entry)) [] [] (now (s .entry)) 0) i) r ⌝ }
 {
     let n = refs::row_number(s, ScopeDescendant::TABLE, i);
@@ -117,7 +156,17 @@ pub fn check_descendant(p: &[u8], s: &TableStarts, i: u32) -> Outcome
     row_checks::bindings::check_scope(s, ScopeDescendant::TABLE, i, field::SCOPE, entry.0)
 }
 
-pub fn check_logical_action(p: &[u8], s: &TableStarts, i: u32) -> Outcome
+pub fn check_descendants(p: &[u8], s: &TableStarts) -> Outcome
+    ensures { λ r. ⌜ Decides (run (indexChecks 13 6 7 (image (now (p .entry)) [] [] (now (s .entry)) 0)) 0 (rowsOf (now (s .entry)) 13)) r ⌝ }
+{
+    let i = first_past(p, s, ScopeDescendant::TABLE, ScopeImage::TABLE);
+    if i < refs::rows_of(s, ScopeDescendant::TABLE) {
+        return check_descendant(p, s, i);
+    }
+    Outcome::Passed
+}
+
+fn check_logical_action(p: &[u8], s: &TableStarts, i: u32) -> Outcome
     ensures { λ r. ⌜ Decides (indexChecks 14 29 3 (image (now (p .entry)) [] [] (now (s .entry)) 0) i) r ⌝ }
 {
     let n = refs::row_number(s, ScopeLogicalAction::TABLE, i);
@@ -125,7 +174,17 @@ pub fn check_logical_action(p: &[u8], s: &TableStarts, i: u32) -> Outcome
     lists::check_action(s, ScopeLogicalAction::TABLE, i, entry.0)
 }
 
-pub fn check_timer_startup(p: &[u8], s: &TableStarts, i: u32) -> Outcome
+pub fn check_logical_actions(p: &[u8], s: &TableStarts) -> Outcome
+    ensures { λ r. ⌜ Decides (run (indexChecks 14 29 3 (image (now (p .entry)) [] [] (now (s .entry)) 0)) 0 (rowsOf (now (s .entry)) 14)) r ⌝ }
+{
+    let i = first_past(p, s, ScopeLogicalAction::TABLE, ActionImage::TABLE);
+    if i < refs::rows_of(s, ScopeLogicalAction::TABLE) {
+        return check_logical_action(p, s, i);
+    }
+    Outcome::Passed
+}
+
+fn check_timer_startup(p: &[u8], s: &TableStarts, i: u32) -> Outcome
     ensures { λ r. ⌜ Decides (startupChecks 15 (image (now (p .entry)) [] [] (now (s .entry)) 0) i) r ⌝ }
 {
     let n = refs::row_number(s, ScopeTimerStartup::TABLE, i);
@@ -134,7 +193,17 @@ pub fn check_timer_startup(p: &[u8], s: &TableStarts, i: u32) -> Outcome
     lists::check_action(s, ScopeTimerStartup::TABLE, i, startup.action)
 }
 
-pub fn check_startup_action(p: &[u8], s: &TableStarts, i: u32) -> Outcome
+pub fn check_timer_startups(p: &[u8], s: &TableStarts) -> Outcome
+    ensures { λ r. ⌜ Decides (run (startupChecks 15 (image (now (p .entry)) [] [] (now (s .entry)) 0)) 0 (rowsOf (now (s .entry)) 15)) r ⌝ }
+{
+    let i = first_past(p, s, ScopeTimerStartup::TABLE, ActionImage::TABLE);
+    if i < refs::rows_of(s, ScopeTimerStartup::TABLE) {
+        return check_timer_startup(p, s, i);
+    }
+    Outcome::Passed
+}
+
+fn check_startup_action(p: &[u8], s: &TableStarts, i: u32) -> Outcome
     ensures { λ r. ⌜ Decides (startupChecks 19 (image (now (p .entry)) [] [] (now (s .entry)) 0) i) r ⌝ }
 {
     let n = refs::row_number(s, StartupAction::TABLE, i);
@@ -143,13 +212,33 @@ pub fn check_startup_action(p: &[u8], s: &TableStarts, i: u32) -> Outcome
     lists::check_action(s, StartupAction::TABLE, i, startup.action)
 }
 
-pub fn check_timer_startup_action(p: &[u8], s: &TableStarts, i: u32) -> Outcome
+pub fn check_startup_actions(p: &[u8], s: &TableStarts) -> Outcome
+    ensures { λ r. ⌜ Decides (run (startupChecks 19 (image (now (p .entry)) [] [] (now (s .entry)) 0)) 0 (rowsOf (now (s .entry)) 19)) r ⌝ }
+{
+    let i = first_past(p, s, StartupAction::TABLE, ActionImage::TABLE);
+    if i < refs::rows_of(s, StartupAction::TABLE) {
+        return check_startup_action(p, s, i);
+    }
+    Outcome::Passed
+}
+
+fn check_timer_startup_action(p: &[u8], s: &TableStarts, i: u32) -> Outcome
     ensures { λ r. ⌜ Decides (startupChecks 20 (image (now (p .entry)) [] [] (now (s .entry)) 0) i) r ⌝ }
 {
     let n = refs::row_number(s, TimerStartupAction::TABLE, i);
     let entry = read_lists::timer_startup_action_at(p, n);
     let startup = entry.0;
     lists::check_action(s, TimerStartupAction::TABLE, i, startup.action)
+}
+
+pub fn check_timer_startup_actions(p: &[u8], s: &TableStarts) -> Outcome
+    ensures { λ r. ⌜ Decides (run (startupChecks 20 (image (now (p .entry)) [] [] (now (s .entry)) 0)) 0 (rowsOf (now (s .entry)) 20)) r ⌝ }
+{
+    let i = first_past(p, s, TimerStartupAction::TABLE, ActionImage::TABLE);
+    if i < refs::rows_of(s, TimerStartupAction::TABLE) {
+        return check_timer_startup_action(p, s, i);
+    }
+    Outcome::Passed
 }
 
 // Entry k of the enabled modes of reaction i.
@@ -183,7 +272,7 @@ fn check_enabled_mode(
 }
 
 // The enabled modes of reaction i.
-pub fn check_enabled_modes(p: &[u8], s: &TableStarts, i: u32) -> Outcome
+fn check_enabled_modes(p: &[u8], s: &TableStarts, i: u32) -> Outcome
     ensures { λ r. ⌜ Decides (enabledModesChecks (image (now (p .entry)) [] [] (now (s .entry)) 0) i) r ⌝ }
 {
     let n = refs::row_number(s, ReactionImage::TABLE, i);
@@ -202,53 +291,20 @@ pub fn check_enabled_modes(p: &[u8], s: &TableStarts, i: u32) -> Outcome
     Outcome::Passed
 }
 
-// The reset, startup and shutdown reactions of scope i.
-pub fn check_scope_lists(p: &[u8], s: &TableStarts, i: u32) -> Outcome
-    ensures { λ r. ⌜ Decides (scopeListChecks (image (now (p .entry)) [] [] (now (s .entry)) 0) i) r ⌝ }
+// The enabled modes of every reaction.
+pub fn check_modes_of_reactions(p: &[u8], s: &TableStarts) -> Outcome
+    ensures { λ r. ⌜ Decides (run (enabledModesChecks (image (now (p .entry)) [] [] (now (s .entry)) 0)) 0 (rowsOf (now (s .entry)) 5)) r ⌝ }
 {
-    let n = refs::row_number(s, ScopeImage::TABLE, i);
-    let reset = parts::scope_reset_reactions_at(p, n);
-    let a = lists::validate_levels(p, s, ScopeResetReaction::TABLE, reset.start, reset.len);
-    let Outcome::Passed = a else {
-        return a;
-    };
-    let up = parts::scope_startup_reactions_at(p, n);
-    let b = lists::validate_lifecycle(p, s, ScopeStartupReaction::TABLE, up.start, up.len);
-    let Outcome::Passed = b else {
-        return b;
-    };
-    let down = parts::scope_shutdown_reactions_at(p, n);
-    lists::validate_lifecycle(p, s, ScopeShutdownReaction::TABLE, down.start, down.len)
-}
-
-// Entry i of a table of reactions by level.
-pub fn check_level_entry(p: &[u8], s: &TableStarts, table: u8, i: u32) -> Outcome
-    requires { ⌜ table < 25 ⌝ }
-    ensures { λ r. ⌜ Decides (levelEntryChecks table (image (now (p .entry)) [] [] (now (s .entry)) 0) i) r ⌝ }
-{
-    let entry = read_lists::level_at(p, refs::row_number(s, table, i));
-    lists::validate_level_ref(p, s, table, i, entry)
-}
-
-// Entry i of a table of lifecycle reactions.
-pub fn check_lifecycle_entry(p: &[u8], s: &TableStarts, table: u8, i: u32) -> Outcome
-    requires { ⌜ table < 25 ⌝ }
-    ensures { λ r. ⌜ Decides (lifecycleEntryChecks table (image (now (p .entry)) [] [] (now (s .entry)) 0) i) r ⌝ }
-{
-    let entry = read_lists::lifecycle_at(p, refs::row_number(s, table, i));
-    let a = lists::check_action(s, table, i, entry.action);
-    let Outcome::Passed = a else {
-        return a;
-    };
-    let reaction = entry.reaction;
-    lists::validate_level_ref(p, s, table, i, reaction)
-}
-
-// Entry i of the shutdown reactions, against the one before.
-pub fn check_shutdown_reaction(p: &[u8], s: &TableStarts, i: u32) -> Outcome
-    ensures { λ r. ⌜ Decides (shutdownReactionChecks (image (now (p .entry)) [] [] (now (s .entry)) 0) i) r ⌝ }
-{
-    lists::check_lifecycle(p, s, ShutdownReaction::TABLE, 0, i)
+    let rows = refs::rows_of(s, ReactionImage::TABLE);
+    let mut i = 0;
+    while i < rows {
+        let a = check_enabled_modes(p, s, i);
+        let Outcome::Passed = a else {
+            return a;
+        };
+        i += 1;
+    }
+    Outcome::Passed
 }
 
 fn check_index_order(table: u8, index: u32, key: u32, before: u32) -> Outcome
@@ -264,7 +320,7 @@ fn check_index_order(table: u8, index: u32, key: u32, before: u32) -> Outcome
 }
 
 // Entry i of the shutdown actions, against the one before.
-pub fn check_shutdown_action(p: &[u8], s: &TableStarts, i: u32) -> Outcome
+fn check_shutdown_action(p: &[u8], s: &TableStarts, i: u32) -> Outcome
     ensures { λ r. ⌜ Decides (shutdownActionChecks (image (now (p .entry)) [] [] (now (s .entry)) 0) i) r ⌝ }
 {
     let table = ShutdownAction::TABLE;
@@ -280,4 +336,20 @@ pub fn check_shutdown_action(p: &[u8], s: &TableStarts, i: u32) -> Outcome
     let before = read_lists::shutdown_action_at(p, refs::row_number(s, table, i - 1));
     let previous = before.0;
     check_index_order(table, i, key.0, previous.0)
+}
+
+// Every shutdown action.
+pub fn check_shutdown_actions(p: &[u8], s: &TableStarts) -> Outcome
+    ensures { λ r. ⌜ Decides (run (shutdownActionChecks (image (now (p .entry)) [] [] (now (s .entry)) 0)) 0 (rowsOf (now (s .entry)) 22)) r ⌝ }
+{
+    let rows = refs::rows_of(s, ShutdownAction::TABLE);
+    let mut i = 0;
+    while i < rows {
+        let a = check_shutdown_action(p, s, i);
+        let Outcome::Passed = a else {
+            return a;
+        };
+        i += 1;
+    }
+    Outcome::Passed
 }

@@ -1,8 +1,8 @@
 // The checks of routes and of required bindings.
 ghost use mathlib.Core.Path.{_≡_};
 ghost use Rattle.identity.specs.Text.{identityText};
-ghost use Rattle.answers.specs.Checks.{Decides};
-ghost use Rattle.checks.specs.Image.{image};
+ghost use Rattle.answers.specs.Checks.{run, Decides};
+ghost use Rattle.checks.specs.Image.{image, rowsOf};
 ghost use Prim.Native.Nat.{_-_};
 ghost use Rattle.checks.specs.Lists.{afterFirst};
 ghost use Rattle.list_checks.specs.Routes.{directionNumber, sameBoundaryChecks, routeOrderChecks, routesAt, routeChecks, bindingIdChecks};
@@ -95,7 +95,7 @@ fn check_route_after<'a>(
 }
 
 // Row i of the routes.
-pub fn check_route<'a>(
+fn check_route<'a>(
     p: &'a [u8],
     batch: &'a [u8],
     house: &'a [u8],
@@ -116,8 +116,29 @@ pub fn check_route<'a>(
     crate::list_tables::check_port(s, RouteImage::TABLE, i, field::LOCAL_PORT, route.local_port)
 }
 
+// Every route.
+pub fn check_routes<'a>(
+    p: &'a [u8],
+    batch: &'a [u8],
+    house: &'a [u8],
+    s: &'a TableStarts,
+) -> Outcome
+    ensures { λ r. ⌜ Decides (run (routeChecks (image (now (p .entry)) (now (batch .entry)) (now (house .entry)) (now (s .entry)) 0)) 0 (rowsOf (now (s .entry)) 23)) r ⌝ }
+{
+    let rows = refs::rows_of(s, RouteImage::TABLE);
+    let mut i = 0;
+    while i < rows {
+        let a = check_route(p, batch, house, s, i);
+        let Outcome::Passed = a else {
+            return a;
+        };
+        i += 1;
+    }
+    Outcome::Passed
+}
+
 // Row i of the required bindings.
-pub fn check_binding_id<'a>(
+fn check_binding_id<'a>(
     p: &'a [u8],
     batch: &'a [u8],
     house: &'a [u8],
@@ -138,4 +159,25 @@ pub fn check_binding_id<'a>(
     }
     let before = read::binding_at(p, refs::row_number(s, table, i - 1));
     identities::validate_id_order(batch, house, kind::BINDING, i, id, before.id)
+}
+
+// Every required binding.
+pub fn check_binding_ids<'a>(
+    p: &'a [u8],
+    batch: &'a [u8],
+    house: &'a [u8],
+    s: &'a TableStarts,
+) -> Outcome
+    ensures { λ r. ⌜ Decides (run (bindingIdChecks (image (now (p .entry)) (now (batch .entry)) (now (house .entry)) (now (s .entry)) 0)) 0 (rowsOf (now (s .entry)) 24)) r ⌝ }
+{
+    let rows = refs::rows_of(s, RequiredBindingImage::TABLE);
+    let mut i = 0;
+    while i < rows {
+        let a = check_binding_id(p, batch, house, s, i);
+        let Outcome::Passed = a else {
+            return a;
+        };
+        i += 1;
+    }
+    Outcome::Passed
 }

@@ -2,7 +2,7 @@
 ghost use mathlib.Core.Path.{_≡_};
 ghost use Prim.Native.Nat.{_+_};
 ghost use mathlib.Core.List.{[]};
-ghost use Rattle.answers.specs.Checks.{Decides};
+ghost use Rattle.answers.specs.Checks.{Decides, run};
 ghost use Rattle.checks.specs.Image.{image, startOf, rowsOf, bindingsAt, isStandard, actionPart};
 ghost use Rattle.checks.specs.Refs.{endBefore, rangeEnd};
 ghost use Rattle.schema.specs.Rows.{enclaveAt, actionAt};
@@ -134,4 +134,20 @@ pub fn check_action(p: &[u8], s: &TableStarts, n: usize, i: u32) -> Outcome
 {
     let row = read::action_at(p, refs::row_number(s, ActionImage::TABLE, i));
     check_action_row(p, s, n, i, row, triggers_end_before(p, s, i))
+}
+
+// Every row of the actions, in the enclave of record n.
+pub fn check_actions(p: &[u8], s: &TableStarts, n: usize) -> Outcome
+    ensures { λ r. ⌜ Decides (run (actionChecks (image (now (p .entry)) [] [] (now (s .entry)) n)) 0 (rowsOf (now (s .entry)) 3)) r ⌝ }
+{
+    let rows = refs::rows_of(s, ActionImage::TABLE);
+    let mut i = 0;
+    while i < rows {
+        let a = check_action(p, s, n, i);
+        let Outcome::Passed = a else {
+            return a;
+        };
+        i += 1;
+    }
+    Outcome::Passed
 }

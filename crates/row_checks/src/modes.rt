@@ -1,8 +1,8 @@
 // The checks of a row of modes.
 ghost use mathlib.Core.Path.{_≡_};
 ghost use mathlib.Core.List.{[]};
-ghost use Rattle.answers.specs.Checks.{Decides};
-ghost use Rattle.checks.specs.Image.{image};
+ghost use Rattle.answers.specs.Checks.{Decides, run};
+ghost use Rattle.checks.specs.Image.{image, rowsOf};
 ghost use Rattle.schema.specs.Rows.{reactorAt, scopeAt};
 ghost use Rattle.row_checks.specs.Modes.{isMode, modeOwnerChecks, modeRow, modeChecks};
 use answers::Outcome;
@@ -75,4 +75,20 @@ pub fn check_mode(p: &[u8], s: &TableStarts, i: u32) -> Outcome
 {
     let row = read::mode_at(p, refs::row_number(s, ModeImage::TABLE, i));
     check_mode_row(p, s, i, row)
+}
+
+// Every row of the modes.
+pub fn check_modes(p: &[u8], s: &TableStarts) -> Outcome
+    ensures { λ r. ⌜ Decides (run (modeChecks (image (now (p .entry)) [] [] (now (s .entry)) 0)) 0 (rowsOf (now (s .entry)) 6)) r ⌝ }
+{
+    let rows = refs::rows_of(s, ModeImage::TABLE);
+    let mut i = 0;
+    while i < rows {
+        let a = check_mode(p, s, i);
+        let Outcome::Passed = a else {
+            return a;
+        };
+        i += 1;
+    }
+    Outcome::Passed
 }

@@ -2,8 +2,8 @@
 ghost use mathlib.Core.Path.{_≡_};
 ghost use Prim.Native.Nat.{_+_};
 ghost use mathlib.Core.List.{[]};
-ghost use Rattle.answers.specs.Checks.{Decides};
-ghost use Rattle.checks.specs.Image.{image, startOf};
+ghost use Rattle.answers.specs.Checks.{Decides, run};
+ghost use Rattle.checks.specs.Image.{image, rowsOf, startOf};
 ghost use Rattle.checks.specs.Refs.{endBefore, rangeEnd};
 ghost use Rattle.schema.specs.Rows.{portAt};
 ghost use Rattle.row_checks.specs.Ports.{portRow, portChecks};
@@ -64,4 +64,20 @@ pub fn check_port(p: &[u8], s: &TableStarts, i: u32) -> Outcome
 {
     let row = read::port_at(p, refs::row_number(s, PortImage::TABLE, i));
     check_port_row(p, s, i, row, triggers_end_before(p, s, i))
+}
+
+// Every row of the ports.
+pub fn check_ports(p: &[u8], s: &TableStarts) -> Outcome
+    ensures { λ r. ⌜ Decides (run (portChecks (image (now (p .entry)) [] [] (now (s .entry)) 0)) 0 (rowsOf (now (s .entry)) 4)) r ⌝ }
+{
+    let rows = refs::rows_of(s, PortImage::TABLE);
+    let mut i = 0;
+    while i < rows {
+        let a = check_port(p, s, i);
+        let Outcome::Passed = a else {
+            return a;
+        };
+        i += 1;
+    }
+    Outcome::Passed
 }

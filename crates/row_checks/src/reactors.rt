@@ -4,7 +4,7 @@ ghost use Prim.Native.Nat.{_+_};
 ghost use mathlib.Core.List.{[]};
 ghost use mathlib.Core.Bool.{_&&_};
 ghost use lib.Dec.{eqb};
-ghost use Rattle.answers.specs.Checks.{Decides};
+ghost use Rattle.answers.specs.Checks.{Decides, run};
 ghost use Rattle.checks.specs.Image.{image, startOf, rowsOf, scopesAt};
 ghost use Rattle.checks.specs.Refs.{endBefore, spanEnd};
 ghost use Rattle.schema.specs.Rows.{enclaveAt, reactorAt, scopeAt};
@@ -187,4 +187,20 @@ pub fn check_reactor(p: &[u8], s: &TableStarts, n: usize, i: u32) -> Outcome
 {
     let row = read::reactor_at(p, refs::row_number(s, ReactorImage::TABLE, i));
     check_reactor_row(p, s, n, i, row, modes_end_before(p, s, i))
+}
+
+// Every row of the reactors, in the enclave of record n.
+pub fn check_reactors(p: &[u8], s: &TableStarts, n: usize) -> Outcome
+    ensures { λ r. ⌜ Decides (run (reactorChecks (image (now (p .entry)) [] [] (now (s .entry)) n)) 0 (rowsOf (now (s .entry)) 2)) r ⌝ }
+{
+    let rows = refs::rows_of(s, ReactorImage::TABLE);
+    let mut i = 0;
+    while i < rows {
+        let a = check_reactor(p, s, n, i);
+        let Outcome::Passed = a else {
+            return a;
+        };
+        i += 1;
+    }
+    Outcome::Passed
 }

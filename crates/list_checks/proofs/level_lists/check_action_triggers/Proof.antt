@@ -1,8 +1,8 @@
--- `list_checks::list_tables::check_action_triggers` meets its contract. Assumes nothing.
+-- `list_checks::level_lists::check_action_triggers` meets its contract. Assumes nothing.
 use Rattle.list_checks.specs.ListTables.{actionTriggerChecks}
 use borrow.Author.Needs.{needs}
-use Rattle.list_checks.proofs.list_tables.check_action_triggers.Statement.{statement}
-use Rattle.list_checks.proofs.list_tables.check_action_triggers.Tie as tie
+use Rattle.list_checks.proofs.level_lists.check_action_triggers.Statement.{statement}
+use Rattle.list_checks.proofs.level_lists.check_action_triggers.Tie as tie
 
 returns : tie.Need-returns
 unfolding actionTriggerChecks

@@ -1,7 +1,7 @@
--- `list_checks::list_tables::check_level_entry` meets its contract. Assumes nothing.
+-- `list_checks::level_lists::check_level_entry` meets its contract. Assumes nothing.
 use borrow.Author.Needs.{needs}
-use Rattle.list_checks.proofs.list_tables.check_level_entry.Statement.{statement}
-use Rattle.list_checks.proofs.list_tables.check_level_entry.Tie as tie
+use Rattle.list_checks.proofs.level_lists.check_level_entry.Statement.{statement}
+use Rattle.list_checks.proofs.level_lists.check_level_entry.Tie as tie
 
 pub check-level-entry-spec : {M : Type 1} → statement M
 check-level-entry-spec =

@@ -1,8 +1,8 @@
--- `list_checks::list_tables::check_lifecycle_entry` meets its contract. Assumes nothing.
+-- `list_checks::level_lists::check_lifecycle_entry` meets its contract. Assumes nothing.
 use Rattle.answers.proofs.Laws.{skip, stop}
 use borrow.Author.Needs.{needs}
-use Rattle.list_checks.proofs.list_tables.check_lifecycle_entry.Statement.{statement}
-use Rattle.list_checks.proofs.list_tables.check_lifecycle_entry.Tie as tie
+use Rattle.list_checks.proofs.level_lists.check_lifecycle_entry.Statement.{statement}
+use Rattle.list_checks.proofs.level_lists.check_lifecycle_entry.Tie as tie
 
 pub check-lifecycle-entry-spec : {M : Type 1} → statement M
 check-lifecycle-entry-spec =

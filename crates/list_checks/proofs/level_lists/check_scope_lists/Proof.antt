@@ -1,9 +1,9 @@
--- `list_checks::list_tables::check_scope_lists` meets its contract. Assumes nothing.
+-- `list_checks::level_lists::check_scope_lists` meets its contract. Assumes nothing.
 use Rattle.list_checks.specs.ListTables.{scopeListChecks}
 use Rattle.answers.proofs.Laws.{skip, stop}
 use borrow.Author.Needs.{needs}
-use Rattle.list_checks.proofs.list_tables.check_scope_lists.Statement.{statement}
-use Rattle.list_checks.proofs.list_tables.check_scope_lists.Tie as tie
+use Rattle.list_checks.proofs.level_lists.check_scope_lists.Statement.{statement}
+use Rattle.list_checks.proofs.level_lists.check_scope_lists.Tie as tie
 
 returns : tie.Need-returns
 unfolding scopeListChecks

@@ -1,0 +1,32 @@
+-- `list_checks::routes::check_routes` meets its contract. Assumes nothing.
+use Prim.Native.Nat.{_-_}
+use native.Mathlib.Omega.{arith}
+use borrow.Author.Needs.{needs}
+use Rattle.answers.proofs.Loops.{Remaining, remaining-start, remaining-step, remaining-stop, remaining-none}
+use Rattle.checks.specs.Image.{image}
+use Rattle.list_checks.specs.Routes.{routeChecks}
+use Rattle.list_checks.proofs.routes.check_routes.Statement.{statement}
+use Rattle.list_checks.proofs.routes.check_routes.Tie as tie
+
+abbrev Inv-loop : tie.InvT-loop
+Inv-loop p batch house s rows i₀ i = Remaining (routeChecks (image p batch house s 0)) i rows
+
+abbrev μ-loop : tie.MeasureT-loop
+μ-loop p batch house s rows i₀ i = rows - i
+
+pub check-routes-spec : {M : Type 1} → statement M
+check-routes-spec =
+    tie.close
+    (tie.spec
+    Inv-loop
+    μ-loop
+    (λ c κs. search needs)
+    (λ c. remaining-start _ _)
+    (λ c κs. search needs)
+    (λ c. search needs)
+    (λ c. search needs)
+    (λ c. rw (← c .before .before .before .before .before .rows-of .ensures) (remaining-stop (c .before .before .before .before .loop .inv) (c .before .before .before .loop-test .taken) (c .before .before .check-route .ensures) (c .enum-told2 .given .1)))
+    (λ c. omega arith)
+    (λ c. omega arith)
+    (λ c. remaining-step (c .before .before .before .before .loop .inv) (c .before .before .before .loop-test .taken) (c .before .before .check-route .ensures) (c .enum-told .given .1))
+    (λ c. rw (← c .before .before .rows-of .ensures) (remaining-none (c .before .loop .inv) (c .loop-test .left))))
