@@ -2,7 +2,7 @@
 use Prim.Native.Nat.{ℕ, zero, suc, _+_, _-_, _<_, _≤_}
 use mathlib.Core.Bool.{Bool, true, false, _&&_}
 use mathlib.Core.Path.{_≡_, refl, _∙_, sym}
-use native.Mathlib.Nat.{add-zero, add-suc}
+use native.Mathlib.Nat.{add-zero, zero-add, add-suc}
 use native.Mathlib.Numerals.{add-one}
 use native.Mathlib.Omega.{arith}
 use Rattle.identity.specs.Scan.{every, Run, Stepped}
@@ -30,6 +30,22 @@ unfolding every
 every-four test o a b c d ea eb ec ed =
     let z : o + 0 ≡ o = omega arith in
     rw (ea, eb, ec, ed, z) (sym (and-assoc (test o && test (o + 1)) (test (o + 2)) (test (o + 3))))
+
+-- eight places by two fours
+pub every-eight : (test : ℕ → Bool) (o : ℕ) (a b : Bool) → a ≡ every test o 4 → b ≡ every test (o + 4) 4 → a && b ≡ every test o 8
+every-eight test o a b ea eb = rw (ea, eb) (sym (every-add test o 4 4))
+
+-- the first n places by the first k of them and the last k, which leave none out
+every-first : (test : ℕ → Bool) (o i k : ℕ) → every test o (i + k) ≡ true → every test o i ≡ true
+every-first test o i k e = both (every test o i) (every test (o + i) k) (sym (every-add test o i k) ∙ e) .0
+
+pub run-overlap : {test : ℕ → Bool} (k n : ℕ) {a b : Bool} → k ≤ n → n ≤ k + k → a ≡ every test 0 k → b ≡ every test (n - k) k → a && b ≡ true → Run test 0 n n
+run-overlap {test} k n {a} {b} l h ea eb t =
+    let p = both a b t in
+    let first : (n - k) + (k - (n - k)) ≡ k = omega arith in
+    let all : (n - k) + k ≡ n = omega arith in
+    let f = every-first test 0 (n - k) (k - (n - k)) (rw first (sym ea ∙ p .0)) in
+    record { inside = omega arith; all = rw (← all, every-add test 0 (n - k) k, f, zero-add) (sym eb ∙ p .1) }
 
 -- the loop over blocks
 pub run-none : (test : ℕ → Bool) (o end : ℕ) → o ≤ end → Run test o 0 end

@@ -11,6 +11,10 @@ abbrev pub cases {ℓ} : {X : Type ℓ} (b : Bool) → (b ≡ true → X) → (b
 cases true t f = t refl
 cases false t f = f refl
 
+-- a test that fails has nothing to show
+pub failed : {X : Type 0} → false ≡ true → X
+failed e = absurd (true≢false (sym e))
+
 -- a test that holds, where its negation was asked
 pub tested : (b t : Bool) → b ≡ t → not b ≡ false → t ≡ true
 tested b t e n = sym e ∙ not-false b n

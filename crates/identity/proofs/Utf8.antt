@@ -10,7 +10,7 @@ use Rattle.identity.specs.declared.Decoded.{Decoded}
 use Rattle.identity.specs.declared.Decoded.the-variants.{Scalar, Malformed}
 use Rattle.identity.specs.Utf8.{Scalars, some, none, before, isSome, decode, utf8, scalarAt}
 use Rattle.identity.specs.Scan.{widthOf, asciiAt, Run, Stepped, utf8From}
-use Rattle.identity.proofs.Steps.{stopped, moved, moved-along, Kept}
+use Rattle.identity.proofs.Steps.{stopped, moved, moved-along, Kept, kept-on}
 use Rattle.identity.proofs.Scalar.{ascii-scalar, width-at, ends-at, decode-at, decode-malformed, decode-end}
 
 some-before : (v : ℕ) (x : Scalars) → isSome (before v x) ≡ isSome x
@@ -44,3 +44,9 @@ utf8-start s = record { inside = omega arith; same = refl }
 
 pub utf8-end : (s : List ℕ) (i : ℕ) → Kept (utf8 s) (utf8From s) (length s) i → length s ≤ i → true ≡ utf8 s
 utf8-end s i p h = sym (p .same ∙ ap isSome (decode-end s i h))
+
+-- a text that is one run of ASCII
+pub utf8-whole : (s : List ℕ) → 0 < length s → Run (asciiAt s) 0 (length s) (length s) → utf8 s ≡ true
+utf8-whole s h p =
+    let d : length s ≡ 0 → ⊥ = λ z. omega arith in
+    sym (utf8-end s (0 + length s) (kept-on (utf8-start s) (utf8-run s 0 (length s) p d) d) (omega arith))

@@ -15,7 +15,7 @@ use Rattle.identity.specs.Identity.{noControl, last, validScalars, valid
 use Rattle.identity.specs.Scan.{printableAt, visibleAt, Run, Stepped, idFrom}
 use Rattle.identity.proofs.Tests.{cases, and-false, within-true, within-in}
 use Rattle.identity.proofs.Unicode.{printable-no-control, visible-no-space}
-use Rattle.identity.proofs.Steps.{stopped, moved, moved-along, Kept}
+use Rattle.identity.proofs.Steps.{stopped, moved, moved-along, Kept, kept-on}
 use Rattle.identity.proofs.Scalar.{ascii-scalar, width-at, ends-at, decode-at, decode-malformed, decode-end}
 
 -- a scalar that no identity has at that place: a control, or white space at an edge
@@ -179,6 +179,13 @@ id-start s = record { inside = omega arith; same = refl }
 pub id-end : (s : List ℕ) (i : ℕ) → Kept (validId s) (idFrom s) (length s) i → length s ≤ i → not (eqb i 0) ≡ validId s
 id-end s i p h =
     sym (p .same ∙ rest-is (eqb i 0) (decode (drop i s)) ∙ ap (validRestText (eqb i 0)) (decode-end s i h))
+
+-- a text that is one run of visible bytes
+pub id-whole : (s : List ℕ) → 0 < length s → Run (visibleAt s) 0 (length s) (length s) → validId s ≡ true
+id-whole s h p =
+    let d : length s ≡ 0 → ⊥ = λ z. omega arith in
+    let f : eqb (0 + length s) 0 ≡ false = ne-eqb (0 + length s) 0 (λ z. omega arith) in
+    sym (id-end s (0 + length s) (kept-on (id-start s) (id-visible s 0 (length s) p d) d) (omega arith)) ∙ rw f
 
 -- a valid identity is UTF-8
 utf8-of : (x : Scalars) → validText x ≡ true → isSome x ≡ true

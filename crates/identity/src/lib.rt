@@ -332,8 +332,57 @@ fn utf8_step(text: &[u8], at: usize) -> usize
     ascii_few(text, at)
 }
 
-// Whether a text is UTF-8.
-pub fn is_utf8(text: &[u8]) -> bool
+// Eight at once: two fours.
+fn ascii_eight(text: &[u8], at: usize) -> bool
+    requires { ⌜ at + 8 ≤ length (now text) ⌝ }
+    ensures { λ r. ⌜ r ≡ every (asciiAt (now (text .entry))) at 8 ⌝ }
+{
+    ascii_four(text, at) & ascii_four(text, at + 4)
+}
+
+fn visible_eight(text: &[u8], at: usize) -> bool
+    requires { ⌜ at + 8 ≤ length (now text) ⌝ }
+    ensures { λ r. ⌜ r ≡ every (visibleAt (now (text .entry))) at 8 ⌝ }
+{
+    visible_four(text, at) & visible_four(text, at + 4)
+}
+
+// Whether a text is 4 to 16 bytes of ASCII, as most identities are: by its first and its last 4 or 8 bytes, which leave none out.
+fn short_ascii(text: &[u8]) -> bool
+    ensures { λ r. ⌜ (r ≡ true → utf8 (now (text .entry)) ≡ true) ⌝ }
+{
+    let len = text.len();
+    if len < 4 {
+        return false;
+    }
+    if len <= 8 {
+        return ascii_four(text, 0) & ascii_four(text, len - 4);
+    }
+    if len <= 16 {
+        return ascii_eight(text, 0) & ascii_eight(text, len - 8);
+    }
+    false
+}
+
+// The same for visible bytes.
+fn short_visible(text: &[u8]) -> bool
+    ensures { λ r. ⌜ (r ≡ true → validId (now (text .entry)) ≡ true) ⌝ }
+{
+    let len = text.len();
+    if len < 4 {
+        return false;
+    }
+    if len <= 8 {
+        return visible_four(text, 0) & visible_four(text, len - 4);
+    }
+    if len <= 16 {
+        return visible_eight(text, 0) & visible_eight(text, len - 8);
+    }
+    false
+}
+
+// Whether a text is UTF-8, step by step.
+fn utf8_scan(text: &[u8]) -> bool
     ensures { λ r. ⌜ r ≡ utf8 (now (text .entry)) ⌝ }
 {
     let mut at = 0;
@@ -345,6 +394,16 @@ pub fn is_utf8(text: &[u8]) -> bool
         at += width;
     }
     true
+}
+
+// Whether a text is UTF-8.
+pub fn is_utf8(text: &[u8]) -> bool
+    ensures { λ r. ⌜ r ≡ utf8 (now (text .entry)) ⌝ }
+{
+    if short_ascii(text) {
+        return true;
+    }
+    utf8_scan(text)
 }
 
 // How many bytes the scalar at `at` takes in an identity; 0 where it may not stand there.
@@ -408,8 +467,8 @@ fn id_step(text: &[u8], at: usize) -> usize
     visible_few(text, at)
 }
 
-// Whether a text is a valid identity: UTF-8, not empty, no control, white space neither first nor last.
-pub fn valid_id(text: &[u8]) -> bool
+// Whether a text is a valid identity, step by step.
+fn id_scan(text: &[u8]) -> bool
     ensures { λ r. ⌜ r ≡ validId (now (text .entry)) ⌝ }
 {
     let mut at = 0;
@@ -421,6 +480,16 @@ pub fn valid_id(text: &[u8]) -> bool
         at += width;
     }
     at != 0
+}
+
+// Whether a text is a valid identity: UTF-8, not empty, no control, white space neither first nor last.
+pub fn valid_id(text: &[u8]) -> bool
+    ensures { λ r. ⌜ r ≡ validId (now (text .entry)) ⌝ }
+{
+    if short_visible(text) {
+        return true;
+    }
+    id_scan(text)
 }
 
 // The `len` bytes of `text` from `start`, or the empty part at the text's start where that place is outside.
