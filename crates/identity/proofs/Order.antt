@@ -1,5 +1,5 @@
 -- The order of two texts, byte by byte. Assumes nothing.
-use Prim.Native.Nat.{ℕ, _+_, _<_, _≤_}
+use Prim.Native.Nat.{ℕ, zero, suc, _+_, _<_, _≤_}
 use mathlib.Core.Bool.{Bool, true}
 use mathlib.Core.Path.{_≡_, refl, _∙_, sym}
 use mathlib.Core.List.{List, [], _∷_}
@@ -11,8 +11,8 @@ use lib.Seq.{drop-cons}
 use borrow.Author.Tests.{ltb-false, lt-ltb, le-ltb, eqb-true}
 use Rattle.identity.specs.declared.ByteOrder.the-variants.{Less, Equal, Greater}
 use Rattle.identity.specs.Order.{compared}
-use Rattle.identity.specs.Scan.{every, sameAt, Tied}
-use Rattle.identity.proofs.Tests.{cases}
+use Rattle.identity.specs.Scan.{every, sameAt, Tied, number, Leading}
+use Rattle.identity.proofs.Tests.{cases, below-or-not}
 use Rattle.identity.proofs.Steps.{along}
 
 pub tied-start : (a b : List ℕ) → Tied a b 0
@@ -50,6 +50,37 @@ tied-block {a} {b} {i} x t e f l h =
     tied-step p (omega arith) (omega arith) (omega arith) (omega arith)) (sym e ∙ f) t
 
 pub ruleset order-laws = (a-longer, b-longer, both-end, a-below, b-below, tied-step)
+
+-- the numbers of the first k bytes decide where they differ, and else the rest does
+record Led (a b : List ℕ) (m n k : ℕ) : Type 0 where
+  less : m < n → Less ≡ compared a b
+  tied : m ≡ n → Tied a b k
+  more : n < m → Greater ≡ compared a b
+
+module _ {a b : List ℕ} (f : (i : ℕ) → getD a i 0 < 256) (g : (i : ℕ) → getD b i 0 < 256) where
+  led : (k : ℕ) → k ≤ length a → k ≤ length b → Led a b (number a k) (number b k) k
+  unfolding number
+  led zero l h =
+      record { less = λ d. absurd (omega arith); tied = λ _. tied-start a b; more = λ d. absurd (omega arith) }
+  led (suc k) l h =
+      let p = led k (omega arith) (omega arith) in
+      let x = f k in
+      let y = g k in
+      record {
+        less = λ d. below-or-not (number a k) (number b k) (p .less) (λ r. a-below (p .tied (omega arith)) l h (omega arith));
+        tied = λ e. rw add-one at (tied-step (p .tied (omega arith)) l h (omega arith) (omega arith));
+        more = λ d. below-or-not (number b k) (number a k) (p .more) (λ r. b-below (p .tied (omega arith)) l h (omega arith) (omega arith));
+      }
+
+module _ {a b : List ℕ} {k m n : ℕ} (p : Leading a k m) (q : Leading b k n) where
+  lead : Led a b m n k
+  lead = rw (p .value, q .value) (led (p .bytes) (q .bytes) k (p .inside) (q .inside))
+
+  pub lead-less : m < n → Less ≡ compared a b
+  lead-less = lead .less
+
+  pub lead-more : n < m → Greater ≡ compared a b
+  lead-more = lead .more
 
 -- Equal stands for equal texts, and for no others
 pub compared-same : (a : List ℕ) → compared a a ≡ Equal

@@ -2,14 +2,17 @@
 use Prim.Native.Nat.{ℕ, _<_, _≤_}
 use mathlib.Core.Bool.{Bool, true, false, not, _&&_, _||_, true≢false}
 use mathlib.Core.Path.{_≡_, refl, _∙_, sym}
-use lib.Dec.{leb, eqb}
+use lib.Dec.{ltb, leb, eqb}
 use native.Mathlib.Omega.{arith}
-use borrow.Author.Tests.{not-false, leb-true, leb-false, le-leb, lt-leb, eqb-true, eqb-false}
+use borrow.Author.Tests.{not-false, ltb-true, ltb-false, leb-true, leb-false, le-leb, lt-leb, eqb-true, eqb-false}
 use Rattle.identity.specs.Within.{within}
 
 abbrev pub cases {ℓ} : {X : Type ℓ} (b : Bool) → (b ≡ true → X) → (b ≡ false → X) → X
 cases true t f = t refl
 cases false t f = f refl
+
+pub below-or-not : {X : Type 0} (m n : ℕ) → (m < n → X) → (n ≤ m → X) → X
+below-or-not m n f g = cases (ltb m n) (λ t. f (ltb-true m n t)) (λ e. g (ltb-false m n e))
 
 -- a test that fails has nothing to show
 pub failed : {X : Type 0} → false ≡ true → X
@@ -23,8 +26,14 @@ pub both : (x y : Bool) → x && y ≡ true → (x ≡ true) × (y ≡ true)
 both true y e = (refl, e)
 both false y e = let z : _≡_ {A = Bool} true false = sym e in absurd (true≢false z)
 
+pub le-left : (m a b : ℕ) → leb m a && leb m b ≡ true → m ≤ a
+le-left m a b e = leb-true m a (both (leb m a) (leb m b) e .0)
+
+pub le-right : (m a b : ℕ) → leb m a && leb m b ≡ true → m ≤ b
+le-right m a b e = leb-true m b (both (leb m a) (leb m b) e .1)
+
 pub both-le : (m a b : ℕ) → leb m a && leb m b ≡ true → (m ≤ a) × (m ≤ b)
-both-le m a b e = let h = both (leb m a) (leb m b) e in (leb-true m a (h .0), leb-true m b (h .1))
+both-le m a b e = (le-left m a b e, le-right m a b e)
 
 pub and-true : (b : Bool) → b && true ≡ b
 and-true true = refl

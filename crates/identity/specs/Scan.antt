@@ -1,10 +1,10 @@
 -- Auxiliary: what the contracts of the private functions cite, and no public contract.
-use Prim.Native.Nat.{ℕ, zero, suc, _+_, _≤_}
+use Prim.Native.Nat.{ℕ, zero, suc, _+_, _*_, _<_, _≤_}
 use mathlib.Core.Bool.{Bool, true, false, _&&_, cond}
 use mathlib.Core.Path.{_≡_}
 use mathlib.Core.List.{List}
 use lib.Dec.{ltb, eqb}
-use lib.ListN.{getD, drop}
+use lib.ListN.{length, getD, drop}
 use Rattle.identity.specs.Within.{within}
 use Rattle.identity.specs.declared.Decoded.{Decoded}
 use Rattle.identity.specs.declared.Decoded.the-variants.{Scalar, Malformed}
@@ -68,3 +68,14 @@ idFrom s i = validText (cond (eqb i 0) (decode (drop i s)) (before 0x61 (decode 
 -- The first i bytes of both texts are the same, so that the rest decides.
 pub record Tied (a b : List ℕ) (i : ℕ) : Type 0 where
   pub same : compared a b ≡ compared (drop i a) (drop i b)
+
+-- The first k bytes of s as a number, the first of them highest.
+unfoldable pub number : List ℕ → ℕ → ℕ
+number s zero = 0
+number s (suc k) = number s k * 256 + getD s k 0
+
+-- s has k bytes or more, and n is the number of the first k.
+pub record Leading (s : List ℕ) (k n : ℕ) : Type 0 where
+  pub inside : k ≤ length s
+  pub bytes : (i : ℕ) → getD s i 0 < 256
+  pub value : n ≡ number s k

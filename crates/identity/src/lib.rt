@@ -9,7 +9,7 @@ ghost use Rattle.identity.specs.Unicode.{control, whiteSpace};
 ghost use Rattle.identity.specs.Identity.{validId};
 ghost use Rattle.identity.specs.Order.{compared, sign};
 ghost use Rattle.identity.specs.Text.{partAt, partPointer, namedText, placeInside, identityText, identityPointer};
-ghost use Rattle.identity.specs.Scan.{widthOf, ascii, printable, visible, every, asciiAt, printableAt, visibleAt, sameAt, Run, Stepped, utf8From, idFrom, Tied};
+ghost use Rattle.identity.specs.Scan.{widthOf, ascii, printable, visible, every, asciiAt, printableAt, visibleAt, sameAt, Run, Stepped, utf8From, idFrom, Tied, Leading};
 
 // The place of an identity: which lent text, where it starts, how long it is.
 pub struct IdentityPlace {
@@ -566,7 +566,8 @@ fn past_same<'a>(left: &'a [u8], right: &'a [u8]) -> usize
     i
 }
 
-fn compare_bytes<'a>(left: &'a [u8], right: &'a [u8]) -> ByteOrder
+// The order from the first difference, block by block and then byte by byte.
+fn compare_rest<'a>(left: &'a [u8], right: &'a [u8]) -> ByteOrder
     ensures { λ r. ⌜ r ≡ compared (now (left .entry)) (now (right .entry)) ⌝ }
 {
     let mut i = past_same(left, right);
@@ -586,6 +587,31 @@ fn compare_bytes<'a>(left: &'a [u8], right: &'a [u8]) -> ByteOrder
         return ByteOrder::Less;
     }
     ByteOrder::Equal
+}
+
+// The first four bytes as a number, the first of them highest: such numbers are in the order of their bytes.
+fn four(text: &[u8]) -> u32
+    requires { ⌜ 4 ≤ length (now text) ⌝ }
+    ensures { λ r. ⌜ Leading (now (text .entry)) 4 r ⌝ }
+{
+    ((wide(text[0]) * 256 + wide(text[1])) * 256 + wide(text[2])) * 256 + wide(text[3])
+}
+
+// The order of two texts: most differ in their first four bytes.
+fn compare_bytes<'a>(left: &'a [u8], right: &'a [u8]) -> ByteOrder
+    ensures { λ r. ⌜ r ≡ compared (now (left .entry)) (now (right .entry)) ⌝ }
+{
+    if (4 <= left.len()) & (4 <= right.len()) {
+        let a = four(left);
+        let b = four(right);
+        if a < b {
+            return ByteOrder::Less;
+        }
+        if b < a {
+            return ByteOrder::Greater;
+        }
+    }
+    compare_rest(left, right)
 }
 
 // The order of two identities by byte, a place outside counting as empty.

@@ -1,35 +1,17 @@
--- `identity::compare_bytes` meets its contract. The loop's invariant: the first i bytes are the same, so the rest decides. Assumes nothing.
-use Prim.Native.Nat.{_-_}
-use lib.ListN.{length}
+-- `identity::compare_bytes` meets its contract. Assumes nothing.
 use borrow.Author.Needs.{needs}
-use Rattle.identity.specs.Scan.{Tied}
-use Rattle.identity.proofs.Order.{order-laws}
+use Rattle.identity.proofs.Tests.{le-left, le-right}
+use Rattle.identity.proofs.Order.{lead-less, lead-more}
 use Rattle.identity.proofs.compare_bytes.Statement.{statement}
 use Rattle.identity.proofs.compare_bytes.Tie as tie
-
-abbrev Inv-loop : tie.InvT-loop
-Inv-loop left right i₀ i = Tied left right i
-
-abbrev μ-loop : tie.MeasureT-loop
-μ-loop left right i₀ i = length left - i
 
 pub compare-bytes-spec : {M : Type 1} → statement M
 compare-bytes-spec =
     tie.close
     (tie.spec
-    Inv-loop
-    μ-loop
+    (λ c κs. search le-left)
+    (λ c κs. search le-right)
+    (λ c. search lead-less)
+    (λ c. search lead-more)
     (λ c κs. search needs)
-    (λ c. search needs)
-    (λ c. search order-laws)
-    (λ c. search needs)
-    (λ c. search needs)
-    (λ c. search order-laws)
-    (λ c. search needs)
-    (λ c. search needs)
-    (λ c. search order-laws)
-    (λ c. search needs)
-    (λ c. search needs)
-    (λ c. search order-laws)
-    (λ c. search order-laws)
-    (λ c. search order-laws))
+    (λ c. search needs))
