@@ -1,7 +1,7 @@
 -- The order of two texts, byte by byte. Assumes nothing.
 use Prim.Native.Nat.{ℕ, zero, suc, _+_, _<_, _≤_}
 use mathlib.Core.Bool.{Bool, true}
-use mathlib.Core.Path.{_≡_, refl, _∙_, sym}
+use mathlib.Core.Path.{_≡_, refl, _∙_, ap, sym}
 use mathlib.Core.List.{List, [], _∷_}
 use native.Mathlib.Numerals.{add-one}
 use native.Mathlib.Omega.{arith}
@@ -10,7 +10,7 @@ use lib.ListN.{length, getD, drop-of-length-le}
 use lib.Seq.{drop-cons}
 use borrow.Author.Tests.{ltb-false, lt-ltb, le-ltb, eqb-true}
 use Rattle.identity.specs.declared.ByteOrder.the-variants.{Less, Equal, Greater}
-use Rattle.identity.specs.Order.{compared}
+use Rattle.identity.specs.Order.{compared, isGreater}
 use Rattle.identity.specs.Scan.{every, sameAt, Tied, number, Leading}
 use Rattle.identity.proofs.Tests.{cases, below-or-not}
 use Rattle.identity.proofs.Steps.{along}
@@ -81,6 +81,15 @@ module _ {a b : List ℕ} {k m n : ℕ} (p : Leading a k m) (q : Leading b k n) 
 
   pub lead-more : n < m → Greater ≡ compared a b
   lead-more = lead .more
+
+  pub lead-above : (m ≡ n → ⊥) → ltb n m ≡ isGreater (compared a b)
+  lead-above d =
+      below-or-not n m
+      (λ h. lt-ltb n m h ∙ ap isGreater (lead-more h))
+      (λ h. le-ltb n m h ∙ ap isGreater (lead-less (other d h)))
+    where
+      other : (m ≡ n → ⊥) → m ≤ n → m < n
+      other d h = omega arith
 
 -- Equal stands for equal texts, and for no others
 pub compared-same : (a : List ℕ) → compared a a ≡ Equal

@@ -1,6 +1,6 @@
 -- The order of two lists by their elements, the first difference deciding, a prefix before what it begins.
 use Prim.Native.Nat.{ℕ}
-use mathlib.Core.Bool.{cond}
+use mathlib.Core.Bool.{Bool, true, false, cond}
 use mathlib.Core.List.{List, [], _∷_}
 use lib.IntN.{ℤ, pos, negsuc}
 use lib.Dec.{ltb}
@@ -18,3 +18,9 @@ abbrev pub sign : ByteOrder → ℤ
 sign Less = negsuc 0
 sign Equal = pos 0
 sign Greater = pos 1
+
+-- Whether a comes after b.
+abbrev pub isGreater : ByteOrder → Bool
+isGreater Less = false
+isGreater Equal = false
+isGreater Greater = true

@@ -7,7 +7,7 @@ ghost use lib.Dec.{leb};
 ghost use Rattle.identity.specs.Utf8.{allowed, follows, checked, valueOfTwo, valueOfThree, valueOfFour, twoBytes, threeBytes, fourBytes, scalarAt, utf8};
 ghost use Rattle.identity.specs.Unicode.{control, whiteSpace};
 ghost use Rattle.identity.specs.Identity.{validId};
-ghost use Rattle.identity.specs.Order.{compared, sign};
+ghost use Rattle.identity.specs.Order.{compared, sign, isGreater};
 ghost use Rattle.identity.specs.Text.{partAt, partPointer, namedText, placeInside, identityText, identityPointer};
 ghost use Rattle.identity.specs.Scan.{widthOf, ascii, printable, visible, every, asciiAt, printableAt, visibleAt, sameAt, Run, Stepped, utf8From, idFrom, Tied, Leading};
 
@@ -347,7 +347,7 @@ fn visible_eight(text: &[u8], at: usize) -> bool
     visible_four(text, at) & visible_four(text, at + 4)
 }
 
-// Whether a text is 4 to 16 bytes of ASCII, as most identities are: by its first and its last 4 or 8 bytes, which leave none out.
+// Whether a text is 4 to 16 bytes of ASCII, by its first and its last 4 or 8, which leave none out: short texts are spared the scan.
 fn short_ascii(text: &[u8]) -> bool
     ensures { λ r. ⌜ (r ≡ true → utf8 (now (text .entry)) ≡ true) ⌝ }
 {
@@ -566,7 +566,7 @@ fn past_same<'a>(left: &'a [u8], right: &'a [u8]) -> usize
     i
 }
 
-// The order from the first difference, block by block and then byte by byte.
+// The order of two texts, by blocks while they are the same and then byte by byte.
 fn compare_rest<'a>(left: &'a [u8], right: &'a [u8]) -> ByteOrder
     ensures { λ r. ⌜ r ≡ compared (now (left .entry)) (now (right .entry)) ⌝ }
 {
@@ -597,7 +597,7 @@ fn four(text: &[u8]) -> u32
     ((wide(text[0]) * 256 + wide(text[1])) * 256 + wide(text[2])) * 256 + wide(text[3])
 }
 
-// The order of two texts: most differ in their first four bytes.
+// The order of two texts: by the first four bytes of each at once, where those differ.
 fn compare_bytes<'a>(left: &'a [u8], right: &'a [u8]) -> ByteOrder
     ensures { λ r. ⌜ r ≡ compared (now (left .entry)) (now (right .entry)) ⌝ }
 {
@@ -612,6 +612,32 @@ fn compare_bytes<'a>(left: &'a [u8], right: &'a [u8]) -> ByteOrder
         }
     }
     compare_rest(left, right)
+}
+
+// Whether the first text comes after the second.
+fn rest_above<'a>(left: &'a [u8], right: &'a [u8]) -> bool
+    ensures { λ r. ⌜ r ≡ isGreater (compared (now (left .entry)) (now (right .entry))) ⌝ }
+{
+    let order = compare_rest(left, right);
+    match order {
+        ByteOrder::Less => false,
+        ByteOrder::Equal => false,
+        ByteOrder::Greater => true,
+    }
+}
+
+// The same, by the first four bytes where they differ. Not by `compare_bytes`, whose answer goes through memory.
+fn bytes_above<'a>(left: &'a [u8], right: &'a [u8]) -> bool
+    ensures { λ r. ⌜ r ≡ isGreater (compared (now (left .entry)) (now (right .entry))) ⌝ }
+{
+    if (4 <= left.len()) & (4 <= right.len()) {
+        let a = four(left);
+        let b = four(right);
+        if a != b {
+            return b < a;
+        }
+    }
+    rest_above(left, right)
 }
 
 // The order of two identities by byte, a place outside counting as empty.
@@ -644,4 +670,14 @@ pub fn compare_utf8<'a>(
         ByteOrder::Equal => 0,
         ByteOrder::Greater => 1,
     }
+}
+
+// Whether the identity `id` comes after `before` by byte: for callers that ask no more, an answer in a register.
+pub fn above<'a>(batch: &'a [u8], house: &'a [u8], id: IdentityPlace, before: IdentityPlace) -> bool
+    ensures { λ r. ⌜ r ≡ isGreater (compared (identityText (now (batch .entry)) (now (house .entry)) id) (identityText (now (batch .entry)) (now (house .entry)) before)) ⌝ }
+{
+    bytes_above(
+        identity_text(batch, house, id),
+        identity_text(batch, house, before),
+    )
 }
