@@ -3,13 +3,18 @@ use Prim.Native.Nat.{ℕ, _*_, _/_, _<_, _≤_}
 use mathlib.Core.Bool.{Bool, true, false, cond}
 use mathlib.Core.Path.{_≡_, refl}
 use mathlib.Core.List.{List}
+use native.Mathlib.Nat.{add-zero}
 use native.Mathlib.Omega.{arith}
 use lib.Dec.{ltb}
-use lib.ListN.{length}
+use lib.ListN.{length, getD}
 use borrow.Author.Tests.{ltb-true, ltb-false}
 use Rattle.schema.specs.Rows.{byteOf}
 use Rattle.packing.specs.declared.walker.Record.the-variants.{At, End}
 use Rattle.packing.specs.Records.{recordAt}
+
+-- a record's table number is its first byte
+pub table-at : (p : List ℕ) (n : ℕ) → byteOf p n 0 ≡ getD p (n * 64) 0
+table-at p n = rw add-zero
 
 was-at : (b : Bool) (t u s v : ℕ) → cond b (At u v) End ≡ At t s → (b ≡ true) × ((t ≡ u) × (s ≡ v))
 was-at true t u s v e = (refl, (cc, cc))

@@ -12,6 +12,7 @@ use lib.Seq.{getD-at, take-suc-set, take-all}
 use borrow.Author.Tests.{ltb-true, ltb-false, leb-false, lt-ltb, le-ltb, lt-leb}
 use Rattle.schema.specs.Rows.{byteOf}
 use Rattle.packing.proofs.Tests.{cases}
+use Rattle.packing.proofs.Records.{table-at}
 use Rattle.packing.specs.Starts.{recordsOf, reaches, firstReaching, tableStart, startsBelow, tableStarts}
 use Rattle.packing.specs.Runs.{OneTable}
 
@@ -136,9 +137,6 @@ module _ (p : List ℕ) (rows : ℕ) where
   starts-rise t u l h =
       let m : t < 26 = omega arith in
       rw (starts-at t m, starts-at u h) (first-rises p t u (recordsOf p) rows l)
-
-table-at : (p : List ℕ) (n : ℕ) → byteOf p n 0 ≡ getD p (n * 64) 0
-table-at p n = rw add-zero
 
 -- the loop over the records of one table
 pub one-start : (p : List ℕ) (k : ℕ) → k < recordsOf p → OneTable p k (k + 1)

@@ -1,9 +1,9 @@
 -- Bytes that are zero, by parts and by their number. Assumes nothing.
-use Prim.Native.Nat.{ℕ, zero, suc, _+_, _*_, _-_, _/_, _%_, _<_, _≤_}
-use mathlib.Core.Bool.{Bool, true, _&&_, and-true, and-assoc}
+use Prim.Native.Nat.{ℕ, zero, suc, _+_, _*_, _-_, _≤_}
+use mathlib.Core.Bool.{Bool, true, false, _&&_, and-true, and-assoc}
 use mathlib.Core.Path.{_≡_, refl, _∙_, sym}
 use mathlib.Core.List.{List}
-use native.Mathlib.Nat.{add-zero, add-suc, zero-mul, one-mul, div-eq-of-lt, div-eq-sub-div}
+use native.Mathlib.Nat.{add-zero, add-suc}
 use native.Mathlib.Omega.{arith}
 use lib.Dec.{eqb}
 use lib.ListN.{getD}
@@ -19,31 +19,28 @@ zeros-add p o i (suc k) =
     let e : o + (i + k) ≡ (o + i) + k = omega arith in
     rw (add-suc, zeros-add p o i k, e) (and-assoc (zeros p o i) (zeros p (o + i) k) _)
 
-zeros-cut : (p : List ℕ) (o i k n : ℕ) → i + k ≡ n → zeros p o n ≡ (zeros p o i && zeros p (o + i) k)
-zeros-cut p o i k n e = rw (sym e) (zeros-add p o i k)
+and-overlap : (a b d : Bool) → (a && b) && (b && d) ≡ (a && b) && d
+and-overlap true true d = refl
+and-overlap true false d = refl
+and-overlap false b d = refl
 
--- k bytes, whole words, in parts of 32, 16, 8 and 4
-pub zeros-parts : (p : List ℕ) (o k : ℕ) → k % 4 ≡ 0 → (zeros p o (k / 32 * 32) && (zeros p (o + k / 32 * 32) (k % 32 / 16 * 16) && (zeros p (o + k / 16 * 16) (k % 16 / 8 * 8) && zeros p (o + k / 8 * 8) (k % 8 / 4 * 4)))) ≡ zeros p o k
-zeros-parts p o k w =
-    let d : k / 32 * 32 + k % 32 / 16 * 16 ≡ k / 16 * 16 = omega arith in
-    let e : k / 16 * 16 + k % 16 / 8 * 8 ≡ k / 8 * 8 = omega arith in
-    let f : k / 8 * 8 + k % 8 / 4 * 4 ≡ k = omega arith in
-    sym
-    (rw (zeros-cut p o (k / 8 * 8) (k % 8 / 4 * 4) k f, zeros-cut p o (k / 16 * 16) (k % 16 / 8 * 8) (k / 8 * 8) e, zeros-cut p o (k / 32 * 32) (k % 32 / 16 * 16) (k / 16 * 16) d)
-    (simp and-assoc))
+-- zero bytes in two parts that share i of them
+overlap : (p : List ℕ) (o m i : ℕ) → (zeros p o (m + i) && zeros p (o + m) (i + m)) ≡ zeros p o (m + i + m)
+overlap p o m i =
+    let e : o + (m + i) ≡ o + m + i = omega arith in
+    rw (zeros-add p o (m + i) m, zeros-add p o m i, zeros-add p (o + m) i m, e)
+    (and-overlap (zeros p o m) (zeros p (o + m) i) (zeros p (o + m + i) m))
 
--- the part of m bytes that k bytes have: none, or one
-module _ (p : List ℕ) (o m k : ℕ) where
-  pub part-none : k < m → true ≡ zeros p o (k / m * m)
-  unfolding zeros
-  part-none h = rw (div-eq-of-lt h, zero-mul)
-
-  pub part-one : {r : Bool} → m ≤ k → k < m + m → r ≡ zeros p o m → r ≡ zeros p o (k / m * m)
-  part-one l h e =
-      let d : k / m ≡ (k - m) / m + 1 = div-eq-sub-div (omega arith) l in
-      let z : (k - m) / m ≡ 0 = div-eq-of-lt (omega arith) in
-      let q : k / m ≡ 1 = omega arith in
-      rw (q, one-mul) e
+-- the bytes of a record from byte u on: the j from there, and the last j
+pub zeros-tail : (p : List ℕ) (s u j : ℕ) → u + j ≤ 64 → 64 ≤ u + (j + j) → (zeros p (s + u) j && zeros p (s + (64 - j)) j) ≡ zeros p (s + u) (64 - u)
+zeros-tail p s u j h l =
+    let m = 64 - u - j in
+    let i = u + j + j - 64 in
+    let a : m + i ≡ j = omega arith in
+    let b : s + u + m ≡ s + (64 - j) = omega arith in
+    let d : i + m ≡ j = omega arith in
+    let e : m + i + m ≡ 64 - u = omega arith in
+    rw (e, a, b, d) at (overlap p (s + u) m i)
 
 last-byte : (x b : ℕ) → (eqb x 0 && eqb b 0) ≡ eqb (x * 256 + b) 0
 last-byte zero zero = refl

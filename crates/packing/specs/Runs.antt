@@ -1,8 +1,15 @@
--- Auxiliary: what the contracts of the private functions cite, and no public contract. Assumes nothing.
-use Prim.Native.Nat.{ℕ, _<_, _≤_}
+-- Auxiliary: what the contracts of functions inside this crate cite, and not those of `check_packing` and `table_starts`. Assumes nothing.
+use Prim.Native.Nat.{ℕ, _+_, _-_, _/_, _<_, _≤_}
+use mathlib.Core.Bool.{Bool, true, false, _&&_}
 use mathlib.Core.Path.{_≡_}
 use mathlib.Core.List.{List}
+use lib.Dec.{eqb}
+use lib.ListN.{getD, length}
+use Rattle.answers.specs.Checks.{Check, run}
 use Rattle.schema.specs.Rows.{byteOf}
+use Rattle.packing.specs.Shape.{layoutOf, used}
+use Rattle.packing.specs.Clean.{zeros, clean}
+use Rattle.packing.specs.Packing.{identityChecks}
 use Rattle.packing.specs.Starts.{recordsOf}
 
 -- the records from k up to r are of one table
@@ -10,3 +17,39 @@ pub record OneTable (p : List ℕ) (k r : ℕ) : Type 0 where
   pub after : k < r
   pub inside : r ≤ recordsOf p
   pub same : (j : ℕ) → k ≤ j → j < r → byteOf p j 0 ≡ byteOf p k 0
+
+-- a table without bits and kinds, whose fields end at byte u, in the first half of the record
+pub record PlainTable (t u : ℕ) : Type 0 where
+  pub bits : layoutOf t .bits ≡ 0
+  pub kinds : layoutOf t .kinds ≡ 0
+  pub ends : u ≡ used (layoutOf t)
+  pub half : u ≤ 32
+
+-- of the record that starts at s, bytes 1 to 3 are zero and those from u on
+abbrev pub plainFrom : List ℕ → ℕ → ℕ → Bool
+plainFrom p s u =
+    (eqb (getD p (s + 1) 0) 0 && (eqb (getD p (s + 2) 0) 0 && eqb (getD p (s + 3) 0) 0)) && zeros p (s + u) (64 - u)
+
+-- the records from n up to r are of table t and clean, and below the limit r is not one more
+pub record CleanRun (p : List ℕ) (t n limit r : ℕ) : Type 0 where
+  pub after : n ≤ r
+  pub inside : r ≤ limit
+  pub same : (j : ℕ) → n ≤ j → j < r → byteOf p j 0 ≡ t
+  pub tidy : (j : ℕ) → n ≤ j → j < r → clean p j ≡ true
+  pub ended : r < limit → byteOf p r 0 ≡ t → clean p r ≡ false
+
+-- a run of table t from record n ends by r: with record n where the table is below 2
+pub record RunLimit (t n records r : ℕ) : Type 0 where
+  pub after : n < r
+  pub inside : r ≤ records
+  pub alone : t < 2 → r ≤ n + 1
+
+-- the records from n up to r lie inside, each with `count` identities
+pub record NamedRun (p : List ℕ) (n r count : ℕ) : Type 0 where
+  pub after : n ≤ r
+  pub inside : r ≤ length p / 64
+  pub each : (j : ℕ) → n ≤ j → j < r → count ≡ layoutOf (byteOf p j 0) .identities
+
+-- the checks of record n's identities, in field order
+abbrev pub namedChecks : List ℕ → List ℕ → List ℕ → ℕ → List Check
+namedChecks p batch house n = run (identityChecks p batch house n) 0 (layoutOf (byteOf p n 0) .identities)

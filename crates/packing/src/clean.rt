@@ -7,6 +7,7 @@ ghost use lib.Dec.{ltb, leb, eqb};
 ghost use Rattle.schema.specs.Rows.{byteOf};
 ghost use Rattle.packing.specs.Shape.{shapeOf};
 ghost use Rattle.packing.specs.Clean.{zeros, clean};
+ghost use Rattle.packing.specs.Runs.{PlainTable, CleanRun, plainFrom};
 use crate::shape::Governed;
 use crate::shape::Shape;
 use schema::number::long_inside;
@@ -41,47 +42,6 @@ fn zeros_32(p: &[u8], at: usize) -> bool
     zeros_16(p, at) & zeros_16(p, at + 16)
 }
 
-// The parts of k bytes from `at`: 32 where they are as many, then 16, then 8, then 4.
-fn zeros_by_32(p: &[u8], at: usize, k: usize) -> bool
-    requires { ⌜ (k < 64) × (at + k ≤ length (now p)) ⌝ }
-    ensures { λ r. ⌜ r ≡ zeros (now (p .entry)) at (k / 32 * 32) ⌝ }
-{
-    if k < 32 {
-        return true;
-    }
-    zeros_32(p, at)
-}
-
-fn zeros_by_16(p: &[u8], at: usize, k: usize) -> bool
-    requires { ⌜ (k < 32) × (at + k ≤ length (now p)) ⌝ }
-    ensures { λ r. ⌜ r ≡ zeros (now (p .entry)) at (k / 16 * 16) ⌝ }
-{
-    if k < 16 {
-        return true;
-    }
-    zeros_16(p, at)
-}
-
-fn zeros_by_8(p: &[u8], at: usize, k: usize) -> bool
-    requires { ⌜ (k < 16) × (at + k ≤ length (now p)) ⌝ }
-    ensures { λ r. ⌜ r ≡ zeros (now (p .entry)) at (k / 8 * 8) ⌝ }
-{
-    if k < 8 {
-        return true;
-    }
-    zeros_8(p, at)
-}
-
-fn zeros_by_4(p: &[u8], at: usize, k: usize) -> bool
-    requires { ⌜ (k < 8) × (at + k ≤ length (now p)) ⌝ }
-    ensures { λ r. ⌜ r ≡ zeros (now (p .entry)) at (k / 4 * 4) ⌝ }
-{
-    if k < 4 {
-        return true;
-    }
-    word_inside(p, at) == 0
-}
-
 // Whether a field of k bytes is zero: of none, a W or two.
 fn zero_field(p: &[u8], at: usize, k: usize) -> bool
     requires { ⌜ (k % 4 ≡ 0) × ((k ≤ 8) × (at + k ≤ length (now p))) ⌝ }
@@ -103,19 +63,25 @@ fn head_clean(shape: Shape, bits: u8, kind: u8, last: u8) -> bool
     (bits <= shape.bits) & ((kind <= shape.kinds) & (last == 0))
 }
 
-// The bytes past the last field.
+// The bytes past the last field: by two parts that overlap, the second up to the record's end.
 fn tail_clean(p: &[u8], start: usize, used: u8) -> bool
     requires { ⌜ (start + 64 ≤ length (now p)) × ((0 < used) × ((used ≤ 64) × (used % 4 ≡ 0))) ⌝ }
     ensures { λ r. ⌜ r ≡ zeros (now (p .entry)) (start + used) (64 - used) ⌝ }
 {
-    let k = 64 - wide(used);
     let at = start + wide(used);
-    let past_32 = at + k / 32 * 32;
-    let past_16 = at + k / 16 * 16;
-    let past_8 = at + k / 8 * 8;
-    zeros_by_32(p, at, k)
-        & (zeros_by_16(p, past_32, k % 32)
-            & (zeros_by_8(p, past_16, k % 16) & zeros_by_4(p, past_8, k % 8)))
+    if used <= 32 {
+        return zeros_32(p, at) & zeros_32(p, start + 32);
+    }
+    if used <= 48 {
+        return zeros_16(p, at) & zeros_16(p, start + 48);
+    }
+    if used <= 56 {
+        return zeros_8(p, at) & zeros_8(p, start + 56);
+    }
+    if used == 60 {
+        return word_inside(p, at) == 0;
+    }
+    true
 }
 
 // The fields that a presence bit governs.
@@ -166,4 +132,61 @@ pub fn clean(p: &[u8], n: usize, table: u8, shape: Shape) -> bool
     let absent_0 = absent_clean(bit_0, p, start, shape.bit_0);
     let absent_1 = absent_clean(bit_1, p, start, shape.bit_1);
     (head & (tail & (absent_0 & absent_1))) & kind_clean(table, p, start, bit_1, kind)
+}
+
+// Whether the record at `start` is clean, by a layout without bits and kinds that uses at most half of it.
+fn is_plain(p: &[u8], start: usize, used: u8) -> bool
+    requires { ⌜ (start + 64 ≤ length (now p)) × (used ≤ 32) ⌝ }
+    ensures { λ r. ⌜ r ≡ plainFrom (now (p .entry)) start used ⌝ }
+{
+    if (p[start + 1] != 0) | ((p[start + 2] != 0) | (p[start + 3] != 0)) {
+        return false;
+    }
+    zeros_32(p, start + wide(used)) & zeros_32(p, start + 32)
+}
+
+// The first record from n on that is not of `table` or not clean, or the limit: of a table without bits and kinds, and of any.
+fn past_plain(p: &[u8], n: usize, table: u8, used: u8, limit: usize) -> usize
+    requires { ⌜ (n ≤ limit) × ((limit ≤ length (now p) / 64) × PlainTable table used) ⌝ }
+    ensures { λ r. ⌜ CleanRun (now (p .entry)) table n limit r ⌝ }
+{
+    let mut next = n;
+    while next < limit {
+        if p[next * 64] != table {
+            return next;
+        }
+        if !is_plain(p, next * 64, used) {
+            return next;
+        }
+        next += 1;
+    }
+    next
+}
+
+fn past_other(p: &[u8], n: usize, table: u8, shape: Shape, limit: usize) -> usize
+    requires { ⌜ (n ≤ limit) × ((limit ≤ length (now p) / 64) × (shape ≡ shapeOf table)) ⌝ }
+    ensures { λ r. ⌜ CleanRun (now (p .entry)) table n limit r ⌝ }
+{
+    let mut next = n;
+    while next < limit {
+        if p[next * 64] != table {
+            return next;
+        }
+        if !clean(p, next, table, shape) {
+            return next;
+        }
+        next += 1;
+    }
+    next
+}
+
+// The same, by one test of the shape for the whole run.
+pub fn past_clean(p: &[u8], n: usize, table: u8, shape: Shape, limit: usize) -> usize
+    requires { ⌜ (n ≤ limit) × ((limit ≤ length (now p) / 64) × (shape ≡ shapeOf table)) ⌝ }
+    ensures { λ r. ⌜ CleanRun (now (p .entry)) table n limit r ⌝ }
+{
+    if ((shape.bits == 0) & (shape.kinds == 0)) & (shape.used <= 32) {
+        return past_plain(p, n, table, shape.used, limit);
+    }
+    past_other(p, n, table, shape, limit)
 }

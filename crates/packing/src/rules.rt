@@ -1,15 +1,15 @@
 // The packing rules: lengths, then record by record the table's place, stray bytes, and each identity's text.
 ghost use mathlib.Core.Path.{_≡_};
 ghost use mathlib.Core.Bool.{true};
-ghost use Prim.Native.Nat.{_*_, _/_, _<_, _≤_};
+ghost use Prim.Native.Nat.{_*_, _-_, _/_, _<_};
 ghost use lib.ListN.{length};
 ghost use Rattle.answers.specs.Checks.{first, run, Decides};
 ghost use Rattle.schema.specs.Rows.{byteOf, bitOf};
 ghost use Rattle.packing.specs.Shape.{layoutOf};
-ghost use Rattle.packing.specs.Records.{recordAt};
 ghost use Rattle.packing.specs.Packing.{packFits, textFits, rowAfter, firstTable, tableAfter, inPlace, identityAt, identityChecks, recordChecks, packingChecks};
+ghost use Rattle.packing.specs.Runs.{NamedRun, RunLimit, namedChecks};
 use crate::PackKind;
-use crate::clean::clean;
+use crate::clean::past_clean;
 use crate::shape::TABLES;
 use crate::shape::shape_of;
 use crate::walker::Record;
@@ -17,7 +17,9 @@ use crate::walker::record_by_walker;
 use answers::Outcome;
 use answers::Refusal;
 use identity::IdentityPlace;
-use schema::number::word_inside;
+use schema::number::high;
+use schema::number::low;
+use schema::number::words_inside;
 
 const MAX_PACK: usize = 4194304;
 
@@ -87,11 +89,11 @@ fn identity_at(pack: &[u8], n: u32, start: usize, j: u8) -> IdentityPlace
     requires { ⌜ (start ≡ n * 64) × ((n < length (now pack) / 64) × (j < layoutOf (byteOf (now pack) n 0) .identities)) ⌝ }
     ensures { λ r. ⌜ r ≡ identityAt (now (pack .entry)) n j ⌝ }
 {
-    let first = start + 4 + 8 * (j as usize);
+    let pair = words_inside(pack, start + 4 + 8 * (j as usize));
     IdentityPlace {
         house: bit_at(pack[start + 1], j),
-        start: word_inside(pack, first),
-        len: word_inside(pack, first + 4),
+        start: high(pair),
+        len: low(pair),
     }
 }
 
@@ -140,30 +142,44 @@ fn check_identities<'a>(
     Outcome::Passed
 }
 
-// The checks of record n.
-fn check_record<'a>(
-    kind: PackKind,
+// The checks of the identities of the records from n up to `next`, `count` in each.
+fn check_named<'a>(
     pack: &'a [u8],
     batch: &'a [u8],
     house: &'a [u8],
-    n: u32,
-    table: u8,
-    start: usize,
+    n: usize,
+    next: usize,
+    count: u8,
 ) -> Outcome
-    requires { ⌜ recordAt (now pack) n ≡ Record.At table start ⌝ }
-    ensures { λ r. ⌜ Decides (recordChecks kind (now (pack .entry)) (now (batch .entry)) (now (house .entry)) n) r ⌝ }
+    requires { ⌜ (packFits (now pack) ≡ true) × NamedRun (now pack) n next count ⌝ }
+    ensures { λ r. ⌜ Decides (run (namedChecks (now (pack .entry)) (now (batch .entry)) (now (house .entry))) n (next - n)) r ⌝ }
 {
-    if !in_place(kind, pack, n, table) {
-        return Outcome::Refused(Refusal::TableOutOfPlace { record: n });
+    if count == 0 {
+        return Outcome::Passed;
     }
-    let shape = shape_of(table);
-    if !clean(pack, n as usize, table, shape) {
-        return Outcome::Refused(Refusal::StrayByte { record: n });
+    let mut m = n;
+    while m < next {
+        let found = check_identities(pack, batch, house, m as u32, m * 64, count);
+        let Outcome::Passed = found else {
+            return found;
+        };
+        m += 1;
     }
-    check_identities(pack, batch, house, n, start, shape.identities)
+    Outcome::Passed
 }
 
-// Record by record, until the walker is at the end.
+// Where a run from record n may end: a table below 2 may not simply repeat.
+fn limit_of(table: u8, n: usize, records: usize) -> usize
+    requires { ⌜ n < records ⌝ }
+    ensures { λ r. ⌜ RunLimit table n records r ⌝ }
+{
+    if table < 2 {
+        return n + 1;
+    }
+    records
+}
+
+// Run by run, until the walker is at the end. A record of the same table after one in its place is in its place.
 fn check_records<'a>(kind: PackKind, pack: &'a [u8], batch: &'a [u8], house: &'a [u8]) -> Outcome
     requires { ⌜ packFits (now pack) ≡ true ⌝ }
     ensures { λ r. ⌜ Decides (run (recordChecks kind (now (pack .entry)) (now (batch .entry)) (now (house .entry))) 0 (length (now (pack .entry)) / 64)) r ⌝ }
@@ -171,14 +187,23 @@ fn check_records<'a>(kind: PackKind, pack: &'a [u8], batch: &'a [u8], house: &'a
     let mut n: usize = 0;
     loop {
         let record = record_by_walker(pack, n);
-        let Record::At { table, start } = record else {
+        let Record::At { table, .. } = record else {
             return Outcome::Passed;
         };
-        let found = check_record(kind, pack, batch, house, n as u32, table, start);
+        let place = n as u32;
+        if !in_place(kind, pack, place, table) {
+            return Outcome::Refused(Refusal::TableOutOfPlace { record: place });
+        }
+        let shape = shape_of(table);
+        let next = past_clean(pack, n, table, shape, limit_of(table, n, pack.len() / 64));
+        if next == n {
+            return Outcome::Refused(Refusal::StrayByte { record: place });
+        }
+        let found = check_named(pack, batch, house, n, next, shape.identities);
         let Outcome::Passed = found else {
             return found;
         };
-        n += 1;
+        n = next;
     }
 }
 
