@@ -4,16 +4,16 @@ use mathlib.Core.Bool.{true, false, _&&_, and-true, or-true}
 use mathlib.Core.Path.{_≡_, refl, _∙_, ap, sym}
 use mathlib.Core.List.{List}
 use native.Mathlib.Omega.{arith}
-use lib.Dec.{ltb, leb, eqb}
+use lib.Dec.{leb, eqb}
 use lib.ListN.{getD}
-use borrow.Author.Tests.{ltb-true, ltb-false, leb-true, eqb-true, lt-leb, ne-eqb}
+use borrow.Author.Tests.{leb-true, eqb-true, lt-leb, ne-eqb}
 use Rattle.schema.specs.Layout.{Layout, layouts}
 use Rattle.schema.specs.Rows.{byteOf}
 use Rattle.packing.specs.declared.shape.Shape.{Shape}
 use Rattle.packing.specs.Shape.{layoutOf, used, governedBytes, shapeOf}
 use Rattle.packing.specs.Clean.{zeros, cleanBy, clean}
 use Rattle.packing.specs.Runs.{PlainTable, plainFrom, CleanRun}
-use Rattle.packing.proofs.Tests.{cases, both}
+use Rattle.packing.proofs.Tests.{both, and-next}
 use Rattle.packing.proofs.Tables.{none-governed, other-table}
 use Rattle.packing.proofs.Records.{table-at}
 
@@ -28,13 +28,6 @@ clean-start p t n =
       ended = λ h. absurd (omega arith);
     }
 
--- what holds of the numbers from n up to r, and of r
-one-more : (F : ℕ → Type 0) (n r : ℕ) → ((j : ℕ) → n ≤ j → j < r → F j) → F r → (j : ℕ) → n ≤ j → j < r + 1 → F j
-one-more F n r f x j l h =
-    cases (ltb j r)
-    (λ b. f j l (ltb-true j r b))
-    (λ b. let g = ltb-false j r b in let e : j ≡ r = omega arith in rw e x)
-
 module _ {p : List ℕ} {t n r : ℕ} (s : CleanRun p t n r r) where
   -- one more record
   pub clean-step : getD p (r * 64) 0 ≡ t → clean p r ≡ true → CleanRun p t n (r + 1) (r + 1)
@@ -43,8 +36,8 @@ module _ {p : List ℕ} {t n r : ℕ} (s : CleanRun p t n r r) where
       record {
         after = omega arith;
         inside = omega arith;
-        same = one-more (λ j. byteOf p j 0 ≡ t) n r (s .same) (table-at p r ∙ e);
-        tidy = one-more (λ j. clean p j ≡ true) n r (s .tidy) d;
+        same = and-next (λ j. byteOf p j 0 ≡ t) n r (s .same) (table-at p r ∙ e);
+        tidy = and-next (λ j. clean p j ≡ true) n r (s .tidy) d;
         ended = λ h. absurd (omega arith);
       }
 

@@ -1,5 +1,5 @@
 -- Where a table begins: the record that reaches it first. Assumes nothing.
-use Prim.Native.Nat.{ℕ, zero, suc, _+_, _*_, _/_, _<_, _≤_}
+use Prim.Native.Nat.{ℕ, zero, suc, _+_, _*_, _-_, _/_, _<_, _≤_}
 use mathlib.Core.Bool.{Bool, true, false, not, _||_, cond, true≢false}
 use mathlib.Core.Path.{_≡_, refl, _∙_, sym}
 use mathlib.Core.List.{List, [], _∷_}
@@ -9,12 +9,12 @@ use native.Mathlib.Omega.{arith}
 use lib.Dec.{ltb, leb}
 use lib.ListN.{length, getD, take, set, length-set, length-append, List·getD-append}
 use lib.Seq.{getD-at, take-suc-set, take-all}
-use borrow.Author.Tests.{ltb-true, ltb-false, leb-false, lt-ltb, le-ltb, lt-leb}
+use borrow.Author.Tests.{ltb-true, ltb-false, leb-false, lt-ltb, le-ltb, lt-leb, le-leb}
 use Rattle.schema.specs.Rows.{byteOf}
-use Rattle.packing.proofs.Tests.{cases}
+use Rattle.packing.proofs.Tests.{cases, neither, and-next}
 use Rattle.packing.proofs.Records.{table-at}
 use Rattle.packing.specs.Starts.{recordsOf, reaches, firstReaching, tableStart, startsBelow, tableStarts}
-use Rattle.packing.specs.Runs.{OneTable}
+use Rattle.packing.specs.Runs.{OneTable, Reached, FixedAt, startsAt}
 
 reaching : (a b : Bool) (d e : ℕ) → not a || (b || leb d e) ≡ false → (a ≡ true) × (e < d)
 reaching true true d e h = absurd (true≢false h)
@@ -35,13 +35,6 @@ module _ (p : List ℕ) where
   pub records-inside : recordsOf p ≤ length p / 64
   records-inside = least (length p / 64) 65536 .0
 
-  -- with n the records looked at: one past the last reaches every table, any other by its own
-  pub past-reaches : (t k n : ℕ) → n ≡ recordsOf p → n ≤ k → true ≡ reaches p t k
-  past-reaches t k n e h = rw (le-ltb k (recordsOf p) (rw e at h))
-
-  pub inside-reaches : (t k n : ℕ) → n ≡ recordsOf p → k < n → (ltb (getD p (k * 64) 0) 2 || leb t (getD p (k * 64) 0)) ≡ reaches p t k
-  inside-reaches t k n e h = rw (lt-ltb k (recordsOf p) (rw e at h), add-zero)
-
   -- a record that does not reach table t lies inside and is of an earlier one
   pub not-reached : (t k : ℕ) → reaches p t k ≡ false → (k < recordsOf p) × (byteOf p k 0 < t)
   not-reached t k h =
@@ -56,6 +49,43 @@ module _ (p : List ℕ) where
 
   pub not-later : (t u k : ℕ) → t ≤ u → reaches p t k ≡ false → reaches p u k ≡ false
   not-later t u k l h = later (ltb k (recordsOf p)) (ltb (byteOf p k 0) 2) t u (byteOf p k 0) l h
+
+-- the last table that record k reaches, with n the records looked at: past them, and by the table number of one of them
+tables-low : (b t : ℕ) → ltb b 2 || ltb 25 b ≡ true → t ≤ 25 → ltb b 2 || leb t b ≡ true
+tables-low b t h l =
+    cases (ltb b 2)
+    (λ d. rw d)
+    (λ d. let g = ltb-true 25 b (rw d at h) in rw (d, le-leb t b (omega arith)))
+
+module _ (p : List ℕ) (k n : ℕ) (e : n ≡ recordsOf p) where
+  pub reached-end : n ≤ k → Reached p k 25
+  reached-end h =
+      record {
+        known = omega arith;
+        these = λ t l. rw (le-ltb k (recordsOf p) (rw e at h));
+        others = λ t l m. absurd (omega arith);
+      }
+
+  inside-reaches : (t : ℕ) → k < n → reaches p t k ≡ (ltb (getD p (k * 64) 0) 2 || leb t (getD p (k * 64) 0))
+  inside-reaches t h = rw (lt-ltb k (recordsOf p) (rw e at h), add-zero)
+
+  pub reached-all : k < n → ltb (getD p (k * 64) 0) 2 || ltb 25 (getD p (k * 64) 0) ≡ true → Reached p k 25
+  reached-all h d =
+      record {
+        known = omega arith;
+        these = λ t l. inside-reaches t h ∙ tables-low (getD p (k * 64) 0) t d l;
+        others = λ t l m. absurd (omega arith);
+      }
+
+  pub reached-table : k < n → ltb (getD p (k * 64) 0) 2 || ltb 25 (getD p (k * 64) 0) ≡ false → Reached p k (getD p (k * 64) 0)
+  reached-table h d =
+      let a = neither (ltb (getD p (k * 64) 0) 2) (ltb 25 (getD p (k * 64) 0)) d in
+      let b = ltb-false 25 (getD p (k * 64) 0) (a .1) in
+      record {
+        known = omega arith;
+        these = λ t l. inside-reaches t h ∙ rw (a .0, le-leb t (getD p (k * 64) 0) l);
+        others = λ t l m. inside-reaches t h ∙ rw (a .0, lt-leb t (getD p (k * 64) 0) l);
+      }
 
 -- none of the records from a up to k reaches table t
 pub record Short (p : List ℕ) (t a k : ℕ) : Type 0 where
@@ -153,7 +183,29 @@ one-more {p} {k} {r} a b o h e f q =
     record {
       after = omega arith;
       inside = omega arith;
-      same = λ j l m. cases (ltb j r) (λ c. o .same j l (ltb-true j r c)) (λ c. let n = ltb-false j r c in let i : j ≡ r = omega arith in rw i (table-at p r ∙ sym f ∙ q ∙ e ∙ sym (table-at p k)));
+      same = and-next (λ j. byteOf p j 0 ≡ byteOf p k 0) k r (o .same) (table-at p r ∙ sym f ∙ q ∙ e ∙ sym (table-at p k));
+    }
+
+-- the loop over the starts at one record
+pub at-none : (k last t : ℕ) (s : List ℕ) → FixedAt k last t s t s
+unfolding startsAt
+at-none k last t s =
+    record {
+      after = omega arith;
+      these = λ j l h. absurd (omega arith);
+      is = let e : t - t ≡ 0 = omega arith in rw e;
+    }
+
+pub at-next : {k last t : ℕ} {s : List ℕ} {r : ℕ} {w : List ℕ} → FixedAt k last t s r w → r ≤ last → FixedAt k last t s (r + 1) (set w r k)
+unfolding startsAt
+at-next {k} {last} {t} {s} {r} {w} f h =
+    let a = f .after in
+    let e : r + 1 - t ≡ suc (r - t) = omega arith in
+    let d : t + (r - t) ≡ r = omega arith in
+    record {
+      after = omega arith;
+      these = and-next (λ j. j ≤ last) t r (f .these) h;
+      is = rw (e, d, f .is);
     }
 
 -- the loop: the starts of the tables below t stand in s, and no record before k reaches table t
@@ -203,6 +255,23 @@ fixed-next {p} {rows} {s} {t} {k} f h r =
       near = f .near;
       short = short-later (f .short);
     }
+
+fixed-these : {p : List ℕ} {rows : ℕ} {s : List ℕ} {t k : ℕ} (m : ℕ) → Fixed p rows s t k → t + m ≤ 26 → ((j : ℕ) → t ≤ j → j < t + m → reaches p j k ≡ true) → Fixed p rows (startsAt k t m s) (t + m) k
+unfolding startsAt
+fixed-these zero f l r = rw add-zero f
+fixed-these {p} {rows} {s} {t} {k} (suc m) f l r =
+    let e : t + suc m ≡ t + m + 1 = omega arith in
+    rw e (fixed-next (fixed-these m f (omega arith) (λ j g h. r j g (omega arith))) (omega arith) (r (t + m) (omega arith) (omega arith)))
+
+-- the tables from t up to r that record k reaches
+pub fixed-turn : {p : List ℕ} {rows : ℕ} {s w : List ℕ} {t k last r : ℕ} → Fixed p rows s t k → Reached p k last → FixedAt k last t s r w → Fixed p rows w r k
+fixed-turn {p} {rows} {s} {w} {t} {k} {last} {r} f x y =
+    let a = y .after in
+    let h = f .within in
+    let n = x .known in
+    let e : t + (r - t) ≡ r = omega arith in
+    let l : r ≤ 26 = cases (ltb t r) (λ b. let d = ltb-true t r b in let g = y .these (r - 1) (omega arith) (omega arith) in omega arith) (λ b. let d = ltb-false t r b in omega arith) in
+    rw (y .is) (rw e at (fixed-these (r - t) f (rw e l) (λ j g d. x .these j (y .these j g (omega arith)))))
 
 pub fixed-all : {p : List ℕ} {rows : ℕ} {s : List ℕ} {t k : ℕ} → Fixed p rows s t k → 26 ≤ t → s ≡ tableStarts p rows
 unfolding tableStarts

@@ -1,22 +1,39 @@
 -- Auxiliary: what the contracts of functions inside this crate cite, and not those of `check_packing` and `table_starts`. Assumes nothing.
-use Prim.Native.Nat.{ℕ, _+_, _-_, _/_, _<_, _≤_}
+use Prim.Native.Nat.{ℕ, zero, suc, _+_, _-_, _/_, _<_, _≤_}
 use mathlib.Core.Bool.{Bool, true, false, _&&_}
 use mathlib.Core.Path.{_≡_}
 use mathlib.Core.List.{List}
 use lib.Dec.{eqb}
-use lib.ListN.{getD, length}
+use lib.ListN.{getD, length, set}
 use Rattle.answers.specs.Checks.{Check, run}
 use Rattle.schema.specs.Rows.{byteOf}
 use Rattle.packing.specs.Shape.{layoutOf, used}
 use Rattle.packing.specs.Clean.{zeros, clean}
 use Rattle.packing.specs.Packing.{identityChecks}
-use Rattle.packing.specs.Starts.{recordsOf}
+use Rattle.packing.specs.Starts.{recordsOf, reaches}
 
 -- the records from k up to r are of one table
 pub record OneTable (p : List ℕ) (k r : ℕ) : Type 0 where
   pub after : k < r
   pub inside : r ≤ recordsOf p
   pub same : (j : ℕ) → k ≤ j → j < r → byteOf p j 0 ≡ byteOf p k 0
+
+-- record k reaches the tables up to r, and none of those after it
+pub record Reached (p : List ℕ) (k r : ℕ) : Type 0 where
+  pub known : r < 26
+  pub these : (t : ℕ) → t ≤ r → reaches p t k ≡ true
+  pub others : (t : ℕ) → r < t → t < 26 → reaches p t k ≡ false
+
+-- s with k at the m places from t on
+unfoldable pub startsAt : ℕ → ℕ → ℕ → List ℕ → List ℕ
+startsAt k t zero s = s
+startsAt k t (suc m) s = set (startsAt k t m s) (t + m) k
+
+-- w is s with k as the start of the tables from t up to r, none of which is past `last`
+pub record FixedAt (k last t : ℕ) (s : List ℕ) (r : ℕ) (w : List ℕ) : Type 0 where
+  pub after : t ≤ r
+  pub these : (j : ℕ) → t ≤ j → j < r → j ≤ last
+  pub is : w ≡ startsAt k t (r - t) s
 
 -- a table without bits and kinds, whose fields end at byte u, in the first half of the record
 pub record PlainTable (t u : ℕ) : Type 0 where

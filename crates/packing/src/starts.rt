@@ -1,8 +1,8 @@
 // Where each table of an enclave begins, in one pass over its records.
 ghost use mathlib.Core.Path.{_≡_};
 ghost use Prim.Native.Nat.{_<_};
-ghost use Rattle.packing.specs.Starts.{recordsOf, reaches, tableStarts};
-ghost use Rattle.packing.specs.Runs.{OneTable};
+ghost use Rattle.packing.specs.Starts.{recordsOf, tableStarts};
+ghost use Rattle.packing.specs.Runs.{OneTable, Reached, FixedAt};
 use schema::TableStarts;
 
 const MAX_RECORDS: usize = 65536;
@@ -18,17 +18,33 @@ fn records_of(p: &[u8]) -> usize
     MAX_RECORDS
 }
 
-// Whether record k is table t's first, or past it.
-fn reaches(p: &[u8], records: usize, t: usize, k: u32) -> bool
+// The last table whose first record is at or before record k: 25, the end, past the enclave's records and past the last table.
+fn reached(p: &[u8], records: usize, k: u32) -> usize
     requires { ⌜ records ≡ recordsOf (now p) ⌝ }
-    ensures { λ r. ⌜ r ≡ reaches (now (p .entry)) t k ⌝ }
+    ensures { λ r. ⌜ Reached (now (p .entry)) k r ⌝ }
 {
     let place = k as usize;
     if records <= place {
-        return true;
+        return 25;
     }
     let table = p[place * 64] as usize;
-    (table < 2) | (t <= table)
+    if (table < 2) | (25 < table) {
+        return 25;
+    }
+    table
+}
+
+// Fixes the starts from table t to the last one at record k, and answers the table after them.
+fn fix_starts(starts: &mut [u32; 26], t: usize, last: usize, k: u32) -> usize
+    requires { ⌜ last < 26 ⌝ }
+    ensures { λ r. ⌜ (last < r) × FixedAt k last t (now (starts .entry)) r (now (starts .exit)) ⌝ }
+{
+    let mut next = t;
+    while next <= last {
+        starts[next] = k;
+        next += 1;
+    }
+    next
 }
 
 // The first record after record k that is of another table, or the end.
@@ -47,7 +63,7 @@ fn past_table(p: &[u8], records: usize, k: u32) -> u32
     next
 }
 
-// The starts of the tables in the enclave whose rows start at record `rows`. A turn moves past the records of one table, or fixes a start.
+// The starts of the tables in the enclave whose rows start at record `rows`. A turn fixes those of the tables that record k reaches, and moves past its table.
 pub fn table_starts(p: &[u8], rows: u32) -> TableStarts
     ensures { λ r. ⌜ r ≡ tableStarts (now (p .entry)) rows ⌝ }
 {
@@ -55,13 +71,11 @@ pub fn table_starts(p: &[u8], rows: u32) -> TableStarts
     let mut starts = [0u32; 26];
     let mut t: usize = 0;
     let mut k = rows;
-    while t < 26 {
-        if !reaches(p, records, t, k) {
-            k = past_table(p, records, k);
-            continue;
+    loop {
+        t = fix_starts(&mut starts, t, reached(p, records, k), k);
+        if 26 <= t {
+            return starts;
         }
-        starts[t] = k;
-        t += 1;
+        k = past_table(p, records, k);
     }
-    starts
 }

@@ -1,13 +1,12 @@
 -- `packing::starts::table_starts` meets its contract. Assumes nothing.
-use Prim.Native.Nat.{_-_, _+_, _<_}
+use Prim.Native.Nat.{_-_}
 use mathlib.Core.Bool.{false}
 use mathlib.Core.Path.{_≡_, refl}
 use native.Mathlib.Omega.{arith}
 use borrow.Author.Needs.{needs}
 use denote.Ref.{now}
 use Rattle.packing.specs.Starts.{recordsOf, reaches}
-use Rattle.packing.proofs.Tests.{held, refused}
-use Rattle.packing.proofs.TableStarts.{Fixed, fixed-none, fixed-move, fixed-next, fixed-all, not-reached, records-few}
+use Rattle.packing.proofs.TableStarts.{Fixed, fixed-none, fixed-turn, fixed-move, fixed-all, not-reached}
 use Rattle.packing.proofs.starts.table_starts.Statement.{statement}
 use Rattle.packing.proofs.starts.table_starts.Tie as tie
 
@@ -15,16 +14,20 @@ abbrev Inv-loop : tie.InvT-loop
 Inv-loop p rows records starts₀ t₀ k₀ starts t k = Fixed p rows starts t k
 
 abbrev μ-loop : tie.MeasureT-loop
-μ-loop p rows records starts₀ t₀ k₀ starts t k = (26 - t) + (recordsOf p - k)
+μ-loop p rows records starts₀ t₀ k₀ starts t k = recordsOf p - k
 
-passed : (c : tie.Then1 Inv-loop μ-loop) → reaches (now (c .before .before .before .before .before .before .args .p)) (c .before .before .before .loop .t) (c .before .before .before .loop .k) ≡ false
-passed c = refused (c .before .reaches .ensures) (c .if1 .taken)
+-- the starts that record k reaches are fixed
+fixed : (c : tie.After-fix-starts Inv-loop μ-loop) → Fixed (now (c .before .before .before .before .before .before .args .p)) (c .before .before .before .before .before .before .args .rows) (c .fix-starts .last .0) (c .fix-starts .result) (c .before .before .before .loop .k)
+fixed c = fixed-turn (c .before .before .before .loop .inv) (c .before .reached .ensures) (c .fix-starts .ensures .1)
 
--- the record is passed: it lies inside
-inside : (c : tie.Then1 Inv-loop μ-loop) → c .before .before .before .loop .k < recordsOf (now (c .before .before .before .before .before .before .args .p))
-inside c =
-    let l = c .before .before .before .loop in
-    not-reached (now (c .before .before .before .before .before .before .args .p)) (l .t) (l .k) (passed c) .0
+-- and it does not reach the next
+short : (c : tie.Else1 Inv-loop μ-loop) → reaches (now (c .before .before .before .before .before .before .before .args .p)) (c .before .fix-starts .result) (c .before .before .before .before .loop .k) ≡ false
+short c = c .before .before .reached .ensures .others _ (c .before .fix-starts .ensures .0) (c .if1 .left)
+
+inside : tie.Need-past-table-requires Inv-loop μ-loop
+inside c κs =
+    let e = c .before .before .before .before .before .records-of .ensures in
+    (e, rw e (not-reached (now (c .before .before .before .before .before .before .before .args .p)) (c .before .fix-starts .result) _ (short c) .0))
 
 pub table-starts-spec : {M : Type 1} → statement M
 table-starts-spec =
@@ -35,12 +38,8 @@ table-starts-spec =
     (λ c κs. search needs)
     (λ c. fixed-none _ _ _ refl)
     (λ c κs. search needs)
-    (λ c κs. (c .before .before .before .before .records-of .ensures, rw (c .before .before .before .before .records-of .ensures) (inside c)))
+    (λ c κs. c .reached .ensures .known)
+    (λ c. fixed-all (fixed (c .before)) (c .if1 .taken))
+    inside
     (λ c. let o = c .past-table .ensures in omega (arith, o .after, o .inside))
-    (λ c. fixed-move (c .before .before .before .before .loop .inv) (passed (c .before)) (c .past-table .ensures))
-    (λ c. search needs)
-    (λ c. let z = c .before .before .before .loop .inv .sized in omega arith)
-    (λ c. search needs)
-    (λ c. search needs)
-    (λ c. fixed-next (c .before .before .before .loop .inv) (search needs) (held (c .before .reaches .ensures) (c .if1 .left)))
-    (λ c. fixed-all (c .before .loop .inv) (search needs)))
+    (λ c. fixed-move (fixed (c .before .before)) (short (c .before)) (c .past-table .ensures)))
