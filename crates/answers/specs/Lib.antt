@@ -2,5 +2,5 @@ pub mod Fields
 pub mod Numbers
 pub mod Listed
 pub mod Checks
-pub mod Holds
+pub mod PassesIf
 pub mod Slots

@@ -2,6 +2,7 @@
 ghost use mathlib.Core.Path.{_≡_};
 ghost use Rattle.identity.specs.Text.{identityText};
 ghost use Rattle.answers.specs.Checks.{run, Decides};
+ghost use Rattle.answers.specs.PassesIf.{PassesIf};
 ghost use Rattle.checks.specs.Image.{image, rowsOf};
 ghost use Prim.Native.Nat.{_-_};
 ghost use Rattle.checks.specs.Lists.{afterFirst};
@@ -16,7 +17,9 @@ use identity::ByteOrder;
 use identity::IdentityPlace;
 use schema::TableStarts;
 use schema::index::RouteDirection;
+use schema::parts;
 use schema::read;
+use schema::rows::PortImage;
 use schema::rows::RequiredBindingImage;
 use schema::rows::RouteImage;
 
@@ -116,6 +119,33 @@ fn check_route<'a>(
     crate::list_tables::check_port(s, RouteImage::TABLE, i, field::LOCAL_PORT, route.local_port)
 }
 
+// A quick test of a route: its boundary is valid and above the one before, and its port is there.
+fn route_passes<'a>(
+    p: &'a [u8],
+    batch: &'a [u8],
+    house: &'a [u8],
+    s: &'a TableStarts,
+    i: u32,
+) -> bool
+    ensures { λ r. ⌜ PassesIf (routeChecks (image (now (p .entry)) (now (batch .entry)) (now (house .entry)) (now (s .entry)) 0) i) r ⌝ }
+{
+    let n = refs::row_number(s, RouteImage::TABLE, i);
+    let id = parts::route_boundary_at(p, n);
+    if !identity::valid_id(identity::identity_text(batch, house, id)) {
+        return false;
+    }
+    let port = parts::route_port_at(p, n);
+    if refs::rows_of(s, PortImage::TABLE) <= port.0 {
+        return false;
+    }
+    if i == 0 {
+        return true;
+    }
+    let m = refs::row_number(s, RouteImage::TABLE, i - 1);
+    let before = parts::route_boundary_at(p, m);
+    identity::above(batch, house, id, before)
+}
+
 // Every route.
 pub fn check_routes<'a>(
     p: &'a [u8],
@@ -128,11 +158,14 @@ pub fn check_routes<'a>(
     let rows = refs::rows_of(s, RouteImage::TABLE);
     let mut i = 0;
     while i < rows {
-        let a = check_route(p, batch, house, s, i);
-        let Outcome::Passed = a else {
-            return a;
-        };
-        i += 1;
+        let next = i + 1;
+        if !route_passes(p, batch, house, s, i) {
+            let a = check_route(p, batch, house, s, i);
+            let Outcome::Passed = a else {
+                return a;
+            };
+        }
+        i = next;
     }
     Outcome::Passed
 }
@@ -161,6 +194,29 @@ fn check_binding_id<'a>(
     identities::validate_id_order(batch, house, kind::BINDING, i, id, before.id)
 }
 
+// A quick test of a required binding: its identity is valid and above the one before.
+fn binding_passes<'a>(
+    p: &'a [u8],
+    batch: &'a [u8],
+    house: &'a [u8],
+    s: &'a TableStarts,
+    i: u32,
+) -> bool
+    ensures { λ r. ⌜ PassesIf (bindingIdChecks (image (now (p .entry)) (now (batch .entry)) (now (house .entry)) (now (s .entry)) 0) i) r ⌝ }
+{
+    let n = refs::row_number(s, RequiredBindingImage::TABLE, i);
+    let id = parts::binding_id_at(p, n);
+    if !identity::valid_id(identity::identity_text(batch, house, id)) {
+        return false;
+    }
+    if i == 0 {
+        return true;
+    }
+    let m = refs::row_number(s, RequiredBindingImage::TABLE, i - 1);
+    let before = parts::binding_id_at(p, m);
+    identity::above(batch, house, id, before)
+}
+
 // Every required binding.
 pub fn check_binding_ids<'a>(
     p: &'a [u8],
@@ -173,11 +229,14 @@ pub fn check_binding_ids<'a>(
     let rows = refs::rows_of(s, RequiredBindingImage::TABLE);
     let mut i = 0;
     while i < rows {
-        let a = check_binding_id(p, batch, house, s, i);
-        let Outcome::Passed = a else {
-            return a;
-        };
-        i += 1;
+        let next = i + 1;
+        if !binding_passes(p, batch, house, s, i) {
+            let a = check_binding_id(p, batch, house, s, i);
+            let Outcome::Passed = a else {
+                return a;
+            };
+        }
+        i = next;
     }
     Outcome::Passed
 }
