@@ -1,6 +1,6 @@
 -- A loop over a run of checks: what is left at i decides the whole run. Assumes nothing.
 use Prim.Native.Nat.{ℕ, zero, suc, _+_, _-_, _<_, _≤_}
-use mathlib.Core.Path.{_≡_, _∙_, sym}
+use mathlib.Core.Path.{_≡_, refl, _∙_, sym}
 use mathlib.Core.List.{List}
 use native.Mathlib.Numerals.{add-one}
 use native.Mathlib.Omega.{arith}
@@ -37,3 +37,8 @@ remaining-stop {f} {i} {n} l h d e =
 pub remaining-none : {f : ℕ → List Check} {i n : ℕ} → Remaining f i n → n ≤ i → Decides (run f 0 n) Passed
 unfolding first run
 remaining-none {f} {i} {n} l h = record { is = let k : n - i ≡ 0 = omega arith in sym (l .same ∙ rw k) }
+
+-- a run of no items
+pub no-items : (f : ℕ → List Check) {n : ℕ} → n ≡ 0 → Decides (run f 0 n) Passed
+unfolding first run
+no-items f e = rw e (record { is = refl })

@@ -111,12 +111,11 @@ fn check_level_entry(p: &[u8], s: &TableStarts, table: u8, i: u32) -> Outcome
     lists::validate_level_ref(p, s, table, i, entry)
 }
 
-// Every entry of a table of reactions by level, whether or not some range covers it.
-pub fn check_level_entries(p: &[u8], s: &TableStarts, table: u8) -> Outcome
+// The entries of a table, so many.
+fn level_entries(p: &[u8], s: &TableStarts, table: u8, rows: u32) -> Outcome
     requires { ⌜ table < 25 ⌝ }
-    ensures { λ r. ⌜ Decides (run (levelEntryChecks table (image (now (p .entry)) [] [] (now (s .entry)) 0)) 0 (rowsOf (now (s .entry)) table)) r ⌝ }
+    ensures { λ r. ⌜ Decides (run (levelEntryChecks table (image (now (p .entry)) [] [] (now (s .entry)) 0)) 0 rows) r ⌝ }
 {
-    let rows = refs::rows_of(s, table);
     let mut i = 0;
     while i < rows {
         let a = check_level_entry(p, s, table, i);
@@ -126,6 +125,18 @@ pub fn check_level_entries(p: &[u8], s: &TableStarts, table: u8) -> Outcome
         i += 1;
     }
     Outcome::Passed
+}
+
+// Every entry of a table of reactions by level, whether or not some range covers it. An empty table costs its count alone.
+pub fn check_level_entries(p: &[u8], s: &TableStarts, table: u8) -> Outcome
+    requires { ⌜ table < 25 ⌝ }
+    ensures { λ r. ⌜ Decides (run (levelEntryChecks table (image (now (p .entry)) [] [] (now (s .entry)) 0)) 0 (rowsOf (now (s .entry)) table)) r ⌝ }
+{
+    let rows = refs::rows_of(s, table);
+    if rows == 0 {
+        return Outcome::Passed;
+    }
+    level_entries(p, s, table, rows)
 }
 
 // Entry i of a table of lifecycle reactions.
@@ -142,12 +153,11 @@ fn check_lifecycle_entry(p: &[u8], s: &TableStarts, table: u8, i: u32) -> Outcom
     lists::validate_level_ref(p, s, table, i, reaction)
 }
 
-// Every entry of a table of lifecycle reactions.
-pub fn check_lifecycle_entries(p: &[u8], s: &TableStarts, table: u8) -> Outcome
+// The entries of a table, so many.
+fn lifecycle_entries(p: &[u8], s: &TableStarts, table: u8, rows: u32) -> Outcome
     requires { ⌜ table < 25 ⌝ }
-    ensures { λ r. ⌜ Decides (run (lifecycleEntryChecks table (image (now (p .entry)) [] [] (now (s .entry)) 0)) 0 (rowsOf (now (s .entry)) table)) r ⌝ }
+    ensures { λ r. ⌜ Decides (run (lifecycleEntryChecks table (image (now (p .entry)) [] [] (now (s .entry)) 0)) 0 rows) r ⌝ }
 {
-    let rows = refs::rows_of(s, table);
     let mut i = 0;
     while i < rows {
         let a = check_lifecycle_entry(p, s, table, i);
@@ -157,6 +167,18 @@ pub fn check_lifecycle_entries(p: &[u8], s: &TableStarts, table: u8) -> Outcome
         i += 1;
     }
     Outcome::Passed
+}
+
+// Every entry of a table of lifecycle reactions, in the same way.
+pub fn check_lifecycle_entries(p: &[u8], s: &TableStarts, table: u8) -> Outcome
+    requires { ⌜ table < 25 ⌝ }
+    ensures { λ r. ⌜ Decides (run (lifecycleEntryChecks table (image (now (p .entry)) [] [] (now (s .entry)) 0)) 0 (rowsOf (now (s .entry)) table)) r ⌝ }
+{
+    let rows = refs::rows_of(s, table);
+    if rows == 0 {
+        return Outcome::Passed;
+    }
+    lifecycle_entries(p, s, table, rows)
 }
 
 // The shutdown reactions: one list over the whole table.

@@ -1,0 +1,32 @@
+-- `list_checks::level_lists::lifecycle_entries` meets its contract. Assumes nothing.
+use Prim.Native.Nat.{_-_}
+use mathlib.Core.List.{[]}
+use native.Mathlib.Omega.{arith}
+use borrow.Author.Needs.{needs}
+use Rattle.answers.proofs.Loops.{Remaining, remaining-start, remaining-step, remaining-stop, remaining-none}
+use Rattle.checks.specs.Image.{image}
+use Rattle.list_checks.specs.ListTables.{lifecycleEntryChecks}
+use Rattle.list_checks.proofs.level_lists.lifecycle_entries.Statement.{statement}
+use Rattle.list_checks.proofs.level_lists.lifecycle_entries.Tie as tie
+
+abbrev Inv-loop : tie.InvT-loop
+Inv-loop p s table rows i₀ i = Remaining (lifecycleEntryChecks table (image p [] [] s 0)) i rows
+
+abbrev μ-loop : tie.MeasureT-loop
+μ-loop p s table rows i₀ i = rows - i
+
+pub lifecycle-entries-spec : {M : Type 1} → statement M
+lifecycle-entries-spec =
+    tie.close
+    (tie.spec
+    Inv-loop
+    μ-loop
+    (λ c. remaining-start _ _)
+    (λ c κs. search needs)
+    (λ c. search needs)
+    (λ c. search needs)
+    (λ c. remaining-stop (c .before .before .before .before .loop .inv) (c .before .before .before .loop-test .taken) (c .before .before .check-lifecycle-entry .ensures) (c .enum-told2 .given .1))
+    (λ c. omega arith)
+    (λ c. omega arith)
+    (λ c. remaining-step (c .before .before .before .before .loop .inv) (c .before .before .before .loop-test .taken) (c .before .before .check-lifecycle-entry .ensures) (c .enum-told .given .1))
+    (λ c. remaining-none (c .before .loop .inv) (c .loop-test .left)))
