@@ -16,6 +16,9 @@ unsure = record { passes = λ e. absurd (true≢false (sym e)) }
 pub sure : {cs : List Check} {b : Bool} → (b ≡ true → Decides cs Passed) → PassesIf cs b
 sure f = record { passes = λ e. sym (f e .is) }
 
+pub surely : {cs : List Check} {b : Bool} → PassesIf cs b → b ≡ true → Decides cs Passed
+surely q e = record { is = sym (q .passes e) }
+
 -- an item that the quick test holds of is passed over
 pub quick-step : {f : ℕ → List Check} {i n : ℕ} {b : Bool} → Remaining f i n → i < n → PassesIf (f i) b → not b ≡ false → Remaining f (i + 1) n
-quick-step {b = b} l h q e = remaining-step l h (record { is = sym (q .passes (not-false b e)) }) refl
+quick-step {b = b} l h q e = remaining-step l h (surely q (not-false b e)) refl

@@ -4,3 +4,4 @@ pub mod Actions
 pub mod Ports
 pub mod Reactions
 pub mod Modes
+pub mod Fits

@@ -27,7 +27,7 @@ fn kind_number(kind: BindingKind) -> u8
     }
 }
 
-fn same_kind(a: BindingKind, b: BindingKind) -> bool
+pub fn same_kind(a: BindingKind, b: BindingKind) -> bool
     ensures { λ r. ⌜ r ≡ sameKind a b ⌝ }
 {
     kind_number(a) == kind_number(b)

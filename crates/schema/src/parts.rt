@@ -3,14 +3,17 @@ ghost use mathlib.Core.Path.{_≡_};
 ghost use Prim.Native.Nat.{_+_, _*_, _/_, _%_, _<_};
 ghost use lib.Dec.{eqb};
 ghost use Rattle.schema.specs.Number.{number, Words};
-ghost use Rattle.schema.specs.Rows.{byteOf, enclaveAt, reactorAt, actionAt, portAt, reactionAt, scopeAt, startupAt, lifecycleAt, routeAt, bindingAt};
+ghost use Rattle.schema.specs.Rows.{byteOf, enclaveAt, reactorAt, actionAt, portAt, reactionAt, modeAt, scopeAt, startupAt, lifecycleAt, routeAt, bindingAt};
 use crate::index::ActionIndex;
 use crate::index::BindingKind;
+use crate::index::BindingSlotIndex;
 use crate::index::MaybeMode;
+use crate::index::MaybeModeEffect;
 use crate::index::MaybeScope;
 use crate::index::PortIndex;
 use crate::index::ReactorIndex;
 use crate::index::RouteDirection;
+use crate::index::ScopeIndex;
 use crate::lists::LevelReactionImage;
 use crate::number::high;
 use crate::number::low;
@@ -19,6 +22,7 @@ use crate::read::bit;
 use crate::read::byte_of;
 use crate::read::direction_of;
 use crate::read::kind_of;
+use crate::read::maybe_effect;
 use crate::read::maybe_mode;
 use crate::read::maybe_scope;
 use crate::read::word_of;
@@ -157,6 +161,18 @@ pub fn reaction_reactor_at(p: &[u8], n: usize) -> ReactorIndex
     ReactorIndex(word_at(p, n, 4))
 }
 
+pub fn reaction_scope_at(p: &[u8], n: usize) -> ScopeIndex
+    ensures { λ r. ⌜ r ≡ reactionAt (now (p .entry)) n .scope ⌝ }
+{
+    ScopeIndex(word_at(p, n, 8))
+}
+
+pub fn reaction_binding_at(p: &[u8], n: usize) -> BindingSlotIndex
+    ensures { λ r. ⌜ r ≡ reactionAt (now (p .entry)) n .binding ⌝ }
+{
+    BindingSlotIndex(word_at(p, n, 16))
+}
+
 pub fn reaction_level_at(p: &[u8], n: usize) -> u32
     ensures { λ r. ⌜ r ≡ reactionAt (now (p .entry)) n .«dependency_level» ⌝ }
 {
@@ -185,6 +201,19 @@ pub fn reaction_enabled_modes_at(p: &[u8], n: usize) -> SliceRange
     ensures { λ r. ⌜ r ≡ reactionAt (now (p .entry)) n .«enabled_modes» ⌝ }
 {
     range_at(p, n, 44)
+}
+
+pub fn reaction_mode_effect_at(p: &[u8], n: usize) -> MaybeModeEffect
+    ensures { λ r. ⌜ r ≡ reactionAt (now (p .entry)) n .«mode_effect» ⌝ }
+{
+    let present = bit(byte_at(p, n, 1), 2);
+    maybe_effect(present, byte_at(p, n, 2), word_at(p, n, 52))
+}
+
+pub fn mode_reactor_at(p: &[u8], n: usize) -> ReactorIndex
+    ensures { λ r. ⌜ r ≡ modeAt (now (p .entry)) n .reactor ⌝ }
+{
+    ReactorIndex(word_at(p, n, 4))
 }
 
 pub fn scope_parent_at(p: &[u8], n: usize) -> MaybeScope

@@ -185,7 +185,7 @@ fn transition_of(k: u8) -> Transition
     Transition::History
 }
 
-fn maybe_effect(present: bool, k: u8, m: u32) -> MaybeModeEffect
+pub fn maybe_effect(present: bool, k: u8, m: u32) -> MaybeModeEffect
     ensures { λ r. ⌜ r ≡ maybeEffect present k m ⌝ }
 {
     if present {

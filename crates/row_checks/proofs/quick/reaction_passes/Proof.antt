@@ -1,0 +1,30 @@
+-- `row_checks::quick::reaction_passes` meets its contract. Assumes nothing.
+use mathlib.Core.Path.{refl, sym}
+use borrow.Author.Tests.{not-false}
+use Rattle.answers.proofs.Laws.{skip}
+use Rattle.answers.proofs.Quick.{unsure, sure, surely}
+use Rattle.row_checks.specs.Reactions.{reactionChecks}
+use borrow.Author.Needs.{needs}
+use Rattle.row_checks.proofs.quick.reaction_passes.Statement.{statement}
+use Rattle.row_checks.proofs.quick.reaction_passes.Tie as tie
+
+returns-4 : tie.Need-returns-4
+unfolding reactionChecks
+returns-4 c =
+    sure (λ e.
+        skip (surely (c .before .before .before .before .owner-passes .ensures) (not-false _ (c .before .before .before .if2 .left))) refl
+        (skip (surely (c .before .before .effect-passes .ensures) (not-false _ (c .before .if3 .left))) refl
+        (surely (c .ranges-pass .ensures) e)))
+
+pub reaction-passes-spec : {M : Type 1} → statement M
+reaction-passes-spec =
+    tie.close
+    (tie.spec
+    (λ c κs. search needs)
+    (λ c. unsure)
+    (λ c κs. search needs)
+    (λ c. unsure)
+    (λ c κs. search needs)
+    (λ c. unsure)
+    (λ c κs. search needs)
+    returns-4)

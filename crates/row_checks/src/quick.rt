@@ -1,0 +1,128 @@
+// A quick test of a row of reactions: where it holds the row's checks pass. Answers stay in registers; what it does not hold of is checked in full.
+ghost use mathlib.Core.Path.{_≡_};
+ghost use mathlib.Core.Bool.{true};
+ghost use mathlib.Core.List.{[]};
+ghost use Rattle.answers.specs.PassesIf.{PassesIf};
+ghost use Rattle.checks.specs.Image.{image, rowsOf, modesAt, reactionsAt};
+ghost use Rattle.row_checks.specs.Fits.{Fits};
+ghost use Rattle.row_checks.specs.Reactions.{effectChecks, reactionOwnerChecks, reactionEndsBefore, reactionRangeChecks, reactionChecks};
+use crate::bindings::same_kind;
+use checks::refs;
+use range::SliceRange;
+use schema::TableStarts;
+use schema::index::BindingKind;
+use schema::index::MaybeModeEffect;
+use schema::lists::ReactionAction;
+use schema::lists::ReactionEffectPort;
+use schema::lists::ReactionMode;
+use schema::lists::ReactionUsePort;
+use schema::parts;
+use schema::rows::ModeImage;
+use schema::rows::ReactionImage;
+use schema::rows::ReactorImage;
+use schema::rows::RequiredBindingImage;
+use schema::rows::ScopeImage;
+
+// Whether a range lies in a table of so many rows, and not before the end of the range before it.
+fn fits(range: SliceRange, before: SliceRange, rows: u32) -> bool
+    ensures { λ r. ⌜ (r ≡ true → Fits rows range before) ⌝ }
+{
+    let start = range.start as u64;
+    let end = start + range.len as u64;
+    let previous = before.start as u64 + before.len as u64;
+    (end <= rows as u64) & (previous <= start)
+}
+
+// Reactor, scope and binding are there, and the scope is the reactor's.
+fn owner_passes(p: &[u8], s: &TableStarts, i: u32) -> bool
+    ensures { λ r. ⌜ PassesIf (reactionOwnerChecks (image (now (p .entry)) [] [] (now (s .entry)) 0) i (reactionsAt (now (p .entry)) (now (s .entry)) i)) r ⌝ }
+{
+    let n = refs::row_number(s, ReactionImage::TABLE, i);
+    let reactor = parts::reaction_reactor_at(p, n);
+    if refs::rows_of(s, ReactorImage::TABLE) <= reactor.0 {
+        return false;
+    }
+    let scope = parts::reaction_scope_at(p, n);
+    if refs::rows_of(s, ScopeImage::TABLE) <= scope.0 {
+        return false;
+    }
+    let binding = parts::reaction_binding_at(p, n);
+    if refs::rows_of(s, RequiredBindingImage::TABLE) <= binding.0 {
+        return false;
+    }
+    let b = refs::row_number(s, RequiredBindingImage::TABLE, binding.0);
+    if !same_kind(parts::binding_kind_at(p, b), BindingKind::Reaction) {
+        return false;
+    }
+    let owner = parts::scope_reactor_at(p, refs::row_number(s, ScopeImage::TABLE, scope.0));
+    owner.0 == reactor.0
+}
+
+// The target of a mode effect is there, and a mode of the reactor.
+fn effect_passes(p: &[u8], s: &TableStarts, i: u32) -> bool
+    ensures { λ r. ⌜ PassesIf (effectChecks (rowsOf (now (s .entry))) (modesAt (now (p .entry)) (now (s .entry))) i (reactionsAt (now (p .entry)) (now (s .entry)) i .reactor) (reactionsAt (now (p .entry)) (now (s .entry)) i .target)) r ⌝ }
+{
+    let n = refs::row_number(s, ReactionImage::TABLE, i);
+    let effect = parts::reaction_mode_effect_at(p, n);
+    let MaybeModeEffect::Effect(e) = effect else {
+        return true;
+    };
+    let target = e.target;
+    if refs::rows_of(s, ModeImage::TABLE) <= target.0 {
+        return false;
+    }
+    let reactor = parts::reaction_reactor_at(p, n);
+    let owner = parts::mode_reactor_at(p, refs::row_number(s, ModeImage::TABLE, target.0));
+    owner.0 == reactor.0
+}
+
+// The four ranges lie in their tables, each after the one of the row before; the first row is left to the full check.
+fn ranges_pass(p: &[u8], s: &TableStarts, i: u32) -> bool
+    ensures { λ r. ⌜ PassesIf (reactionRangeChecks (rowsOf (now (s .entry))) i (reactionsAt (now (p .entry)) (now (s .entry)) i) (reactionEndsBefore (reactionsAt (now (p .entry)) (now (s .entry))) i)) r ⌝ }
+{
+    if i == 0 {
+        return false;
+    }
+    let n = refs::row_number(s, ReactionImage::TABLE, i);
+    let m = refs::row_number(s, ReactionImage::TABLE, i - 1);
+    if p.len() / 64 <= m {
+        return false;
+    }
+    let uses = fits(
+        parts::reaction_use_ports_at(p, n),
+        parts::reaction_use_ports_at(p, m),
+        refs::rows_of(s, ReactionUsePort::TABLE),
+    );
+    let effects = fits(
+        parts::reaction_effect_ports_at(p, n),
+        parts::reaction_effect_ports_at(p, m),
+        refs::rows_of(s, ReactionEffectPort::TABLE),
+    );
+    let actions = fits(
+        parts::reaction_actions_at(p, n),
+        parts::reaction_actions_at(p, m),
+        refs::rows_of(s, ReactionAction::TABLE),
+    );
+    let enabled = fits(
+        parts::reaction_enabled_modes_at(p, n),
+        parts::reaction_enabled_modes_at(p, m),
+        refs::rows_of(s, ReactionMode::TABLE),
+    );
+    (uses & effects) & (actions & enabled)
+}
+
+// Row i of the reactions. Records past the pack are left to the full check, here and above, so that the readers need not test for them again.
+pub fn reaction_passes(p: &[u8], s: &TableStarts, i: u32) -> bool
+    ensures { λ r. ⌜ PassesIf (reactionChecks (image (now (p .entry)) [] [] (now (s .entry)) 0) i) r ⌝ }
+{
+    if p.len() / 64 <= refs::row_number(s, ReactionImage::TABLE, i) {
+        return false;
+    }
+    if !owner_passes(p, s, i) {
+        return false;
+    }
+    if !effect_passes(p, s, i) {
+        return false;
+    }
+    ranges_pass(p, s, i)
+}
