@@ -2,3 +2,4 @@ pub mod Image
 pub mod Refs
 pub mod Lists
 pub mod Identities
+pub mod PassedOver

@@ -1,10 +1,12 @@
 // Lists of reactions by level, and of lifecycle reactions.
 ghost use mathlib.Core.Path.{_≡_};
 ghost use mathlib.Core.List.{[], _∷_};
-ghost use Prim.Native.Nat.{_+_, _<_};
+ghost use Prim.Native.Nat.{ℕ, _+_, _<_};
 ghost use Rattle.answers.specs.Checks.{Decides};
+ghost use Rattle.answers.specs.PassesIf.{PassesIf};
 ghost use Rattle.checks.specs.Image.{startOf, rowsOf, reactionsAt, levelsAt, lifecyclesAt};
 ghost use Rattle.checks.specs.Lists.{entryIndex, levelEqual, levelLess, levelRefChecks, levelOrderChecks, levelChecks, lifecycleChecks, levelsChecks, lifecyclesChecks};
+ghost use Rattle.checks.specs.PassedOver.{entryOf, entryChecks, PassedOver};
 ghost use Rattle.checks.specs.Refs.{refTo};
 use crate::Found;
 use answers::Outcome;
@@ -13,8 +15,11 @@ use answers::field;
 use schema::TableStarts;
 use schema::index::ActionIndex;
 use schema::lists::LevelReactionImage;
+use schema::number;
 use schema::parts;
 use schema::read_lists;
+use schema::rows::ActionImage;
+use schema::rows::ReactionImage;
 
 // The row number shown for entry k of a range.
 pub fn entry_index(start: u32, k: u32) -> u32
@@ -173,12 +178,57 @@ pub fn check_action(s: &TableStarts, table: u8, index: u32, action: ActionIndex)
     Outcome::Passed
 }
 
-// The `len` entries from `start` of a table of reactions by level.
+// Whether an entry, read as one number, names a reaction that is there and has the entry's level.
+fn has_level(p: &[u8], s: &TableStarts, pair: u64) -> bool
+    ensures { λ r. ⌜ ((t i : ℕ) → PassesIf (levelRefChecks (rowsOf (now (s .entry))) (reactionsAt (now (p .entry)) (now (s .entry))) t i (entryOf pair)) r) ⌝ }
+{
+    let reaction = number::low(pair);
+    if crate::refs::rows_of(s, ReactionImage::TABLE) <= reaction {
+        return false;
+    }
+    let n = crate::refs::row_number(s, ReactionImage::TABLE, reaction);
+    parts::reaction_level_at(p, n) == number::high(pair)
+}
+
+// A quick test of entry k and of the entry before it, each read as one number. The level is the high half, so entries rise as their numbers do.
+fn level_passes(p: &[u8], s: &TableStarts, k: u32, before: u64, pair: u64) -> bool
+    ensures { λ r. ⌜ ((t i : ℕ) → PassesIf (entryChecks (rowsOf (now (s .entry))) (reactionsAt (now (p .entry)) (now (s .entry))) t i k (entryOf before) (entryOf pair)) r) ⌝ }
+{
+    if !has_level(p, s, pair) {
+        return false;
+    }
+    if k == 0 {
+        return true;
+    }
+    before < pair
+}
+
+// How many of the `len` entries from `start` are seen to pass, from the first on. The number before is kept, so each is read once.
+fn levels_past(p: &[u8], s: &TableStarts, table: u8, start: u32, len: u32) -> u32
+    requires { ⌜ table < 25 ⌝ }
+    ensures { λ r. ⌜ PassedOver (levelChecks (rowsOf (now (s .entry))) (reactionsAt (now (p .entry)) (now (s .entry))) (levelsAt (now (p .entry)) (now (s .entry))) table start) len r ⌝ }
+{
+    let t = table as usize;
+    let first = s[t];
+    let mut k = 0;
+    let mut before = 0;
+    while k < len {
+        let pair = parts::words_at(p, crate::refs::row_in(first, start, k), 4);
+        if !level_passes(p, s, k, before, pair) {
+            return k;
+        }
+        before = pair;
+        k += 1;
+    }
+    k
+}
+
+// The `len` entries from `start` of a table of reactions by level. Those not seen to pass at once are checked one by one, for the refusal.
 pub fn validate_levels(p: &[u8], s: &TableStarts, table: u8, start: u32, len: u32) -> Outcome
     requires { ⌜ table < 25 ⌝ }
     ensures { λ r. ⌜ Decides (levelsChecks (rowsOf (now (s .entry))) (reactionsAt (now (p .entry)) (now (s .entry))) (levelsAt (now (p .entry)) (now (s .entry))) table start len) r ⌝ }
 {
-    let mut k = 0;
+    let mut k = levels_past(p, s, table, start, len);
     while k < len {
         let a = check_level(p, s, table, start, k);
         let Outcome::Passed = a else {
@@ -189,12 +239,37 @@ pub fn validate_levels(p: &[u8], s: &TableStarts, table: u8, start: u32, len: u3
     Outcome::Passed
 }
 
-// The `len` entries from `start` of a table of lifecycle reactions.
+// The same for lifecycle reactions, whose actions are there too.
+fn lifecycles_past(p: &[u8], s: &TableStarts, table: u8, start: u32, len: u32) -> u32
+    requires { ⌜ table < 25 ⌝ }
+    ensures { λ r. ⌜ PassedOver (lifecycleChecks (rowsOf (now (s .entry))) (reactionsAt (now (p .entry)) (now (s .entry))) (lifecyclesAt (now (p .entry)) (now (s .entry))) table start) len r ⌝ }
+{
+    let t = table as usize;
+    let first = s[t];
+    let mut k = 0;
+    let mut before = 0;
+    while k < len {
+        let n = crate::refs::row_in(first, start, k);
+        let action = parts::lifecycle_action_at(p, n);
+        if crate::refs::rows_of(s, ActionImage::TABLE) <= action.0 {
+            return k;
+        }
+        let pair = parts::words_at(p, n, 4);
+        if !level_passes(p, s, k, before, pair) {
+            return k;
+        }
+        before = pair;
+        k += 1;
+    }
+    k
+}
+
+// The `len` entries from `start` of a table of lifecycle reactions, in the same way.
 pub fn validate_lifecycle(p: &[u8], s: &TableStarts, table: u8, start: u32, len: u32) -> Outcome
     requires { ⌜ table < 25 ⌝ }
     ensures { λ r. ⌜ Decides (lifecyclesChecks (rowsOf (now (s .entry))) (reactionsAt (now (p .entry)) (now (s .entry))) (lifecyclesAt (now (p .entry)) (now (s .entry))) table start len) r ⌝ }
 {
-    let mut k = 0;
+    let mut k = lifecycles_past(p, s, table, start, len);
     while k < len {
         let a = check_lifecycle(p, s, table, start, k);
         let Outcome::Passed = a else {

@@ -1,7 +1,8 @@
 -- `checks::lists::validate_levels` meets its contract. Assumes nothing.
 use Rattle.checks.specs.Lists.{levelChecks, levelsChecks}
 use Rattle.checks.specs.Image.{rowsOf, reactionsAt, levelsAt}
-use Rattle.answers.proofs.Loops.{Remaining, remaining-start, remaining-step, remaining-stop, remaining-none}
+use Rattle.answers.proofs.Loops.{Remaining, remaining-step, remaining-stop, remaining-none}
+use Rattle.checks.proofs.PassedLaws.{passed-over}
 use borrow.Author.Needs.{needs}
 use native.Mathlib.Omega.{arith}
 use Prim.Native.Nat.{_-_}
@@ -28,7 +29,8 @@ validate-levels-spec =
     (tie.spec
     Inv-loop
     μ-loop
-    (λ c. remaining-start _ _)
+    (λ c κs. search needs)
+    (λ c. passed-over _ (c .levels-past .ensures))
     (λ c κs. search needs)
     (λ c. search needs)
     (λ c. search needs)
