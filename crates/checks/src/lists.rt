@@ -223,8 +223,8 @@ fn levels_past(p: &[u8], s: &TableStarts, table: u8, start: u32, len: u32) -> u3
     k
 }
 
-// The `len` entries from `start` of a table of reactions by level. Those not seen to pass at once are checked one by one, for the refusal.
-pub fn validate_levels(p: &[u8], s: &TableStarts, table: u8, start: u32, len: u32) -> Outcome
+// The entries of a range of reactions by level. Those not seen to pass at once are checked one by one, for the refusal.
+fn levels_in(p: &[u8], s: &TableStarts, table: u8, start: u32, len: u32) -> Outcome
     requires { ⌜ table < 25 ⌝ }
     ensures { λ r. ⌜ Decides (levelsChecks (rowsOf (now (s .entry))) (reactionsAt (now (p .entry)) (now (s .entry))) (levelsAt (now (p .entry)) (now (s .entry))) table start len) r ⌝ }
 {
@@ -237,6 +237,17 @@ pub fn validate_levels(p: &[u8], s: &TableStarts, table: u8, start: u32, len: u3
         k += 1;
     }
     Outcome::Passed
+}
+
+// The `len` entries from `start` of a table of reactions by level. Most ranges are empty: they cost no call.
+pub fn validate_levels(p: &[u8], s: &TableStarts, table: u8, start: u32, len: u32) -> Outcome
+    requires { ⌜ table < 25 ⌝ }
+    ensures { λ r. ⌜ Decides (levelsChecks (rowsOf (now (s .entry))) (reactionsAt (now (p .entry)) (now (s .entry))) (levelsAt (now (p .entry)) (now (s .entry))) table start len) r ⌝ }
+{
+    if len == 0 {
+        return Outcome::Passed;
+    }
+    levels_in(p, s, table, start, len)
 }
 
 // The same for lifecycle reactions, whose actions are there too.
@@ -264,8 +275,8 @@ fn lifecycles_past(p: &[u8], s: &TableStarts, table: u8, start: u32, len: u32) -
     k
 }
 
-// The `len` entries from `start` of a table of lifecycle reactions, in the same way.
-pub fn validate_lifecycle(p: &[u8], s: &TableStarts, table: u8, start: u32, len: u32) -> Outcome
+// The entries of a range of lifecycle reactions, in the same way.
+fn lifecycles_in(p: &[u8], s: &TableStarts, table: u8, start: u32, len: u32) -> Outcome
     requires { ⌜ table < 25 ⌝ }
     ensures { λ r. ⌜ Decides (lifecyclesChecks (rowsOf (now (s .entry))) (reactionsAt (now (p .entry)) (now (s .entry))) (lifecyclesAt (now (p .entry)) (now (s .entry))) table start len) r ⌝ }
 {
@@ -278,4 +289,15 @@ pub fn validate_lifecycle(p: &[u8], s: &TableStarts, table: u8, start: u32, len:
         k += 1;
     }
     Outcome::Passed
+}
+
+// The `len` entries from `start` of a table of lifecycle reactions.
+pub fn validate_lifecycle(p: &[u8], s: &TableStarts, table: u8, start: u32, len: u32) -> Outcome
+    requires { ⌜ table < 25 ⌝ }
+    ensures { λ r. ⌜ Decides (lifecyclesChecks (rowsOf (now (s .entry))) (reactionsAt (now (p .entry)) (now (s .entry))) (lifecyclesAt (now (p .entry)) (now (s .entry))) table start len) r ⌝ }
+{
+    if len == 0 {
+        return Outcome::Passed;
+    }
+    lifecycles_in(p, s, table, start, len)
 }

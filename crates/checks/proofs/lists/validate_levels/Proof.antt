@@ -1,41 +1,16 @@
 -- `checks::lists::validate_levels` meets its contract. Assumes nothing.
-use Rattle.checks.specs.Lists.{levelChecks, levelsChecks}
-use Rattle.checks.specs.Image.{rowsOf, reactionsAt, levelsAt}
-use Rattle.answers.proofs.Loops.{Remaining, remaining-step, remaining-stop, remaining-none}
-use Rattle.checks.proofs.PassedLaws.{passed-over}
 use borrow.Author.Needs.{needs}
-use native.Mathlib.Omega.{arith}
-use Prim.Native.Nat.{_-_}
+use Rattle.answers.proofs.Loops.{no-items}
+use Rattle.checks.specs.Lists.{levelsChecks}
 use Rattle.checks.proofs.lists.validate_levels.Statement.{statement}
 use Rattle.checks.proofs.lists.validate_levels.Tie as tie
 
-abbrev Inv-loop : tie.InvT-loop
-Inv-loop p s table start len k₀ k = Remaining (levelChecks (rowsOf s) (reactionsAt p s) (levelsAt p s) table start) k len
-
-abbrev μ-loop : tie.MeasureT-loop
-μ-loop p s table start len k₀ k = len - k
-
-returns : tie.Need-returns Inv-loop μ-loop
+returns : tie.Need-returns
 unfolding levelsChecks
-returns c = remaining-stop (c .before .before .before .before .loop .inv) (c .before .before .before .loop-test .taken) (c .before .before .check-level .ensures) (c .enum-told2 .given .1)
-
-returns-2 : tie.Need-returns-2 Inv-loop μ-loop
-unfolding levelsChecks
-returns-2 c = remaining-none (c .before .loop .inv) (c .loop-test .left)
+returns c = no-items _ (c .if1 .taken)
 
 pub validate-levels-spec : {M : Type 1} → statement M
-validate-levels-spec =
-    tie.close
-    (tie.spec
-    Inv-loop
-    μ-loop
-    (λ c κs. search needs)
-    (λ c. passed-over _ (c .levels-past .ensures))
-    (λ c κs. search needs)
-    (λ c. search needs)
-    (λ c. search needs)
+validate-levels-spec = tie.close (tie.spec
     returns
-    (λ c. omega arith)
-    (λ c. omega arith)
-    (λ c. remaining-step (c .before .before .before .before .loop .inv) (c .before .before .before .loop-test .taken) (c .before .before .check-level .ensures) (c .enum-told .given .1))
-    returns-2)
+    (λ c κs. search needs)
+    (λ c. search needs))

@@ -20,13 +20,13 @@ returns-3 c =
     let i = a .i in
     rw (ne-eqb _ _ (c .before .before .before .before .before .before .before .before .before .before .before .before .before .before .before .before .before .before .before .if1 .left), ← c .before .before .before .before .before .before .before .before .before .before .before .before .before .before .before .before .before .before .row-number .ensures, ← c .before .before .before .before .before .before .before .before .before .before .before .before .before .before .before .before .before .row-number2 .ensures, ← c .before .before .before .before .before .before .before .before .before .before .before .before .before .before .before .reaction-use-ports-at .ensures, ← c .before .before .before .before .before .before .before .before .before .before .before .before .before .before .reaction-use-ports-at2 .ensures, ← c .before .before .before .before .before .before .before .before .before .before .before .reaction-effect-ports-at .ensures, ← c .before .before .before .before .before .before .before .before .before .before .reaction-effect-ports-at2 .ensures, ← c .before .before .before .before .before .before .before .reaction-actions-at .ensures, ← c .before .before .before .before .before .before .reaction-actions-at2 .ensures, ← c .before .before .before .reaction-enabled-modes-at .ensures, ← c .before .before .reaction-enabled-modes-at2 .ensures)
     (sure (λ e.
-        let h = both _ _ e in
-        let x = both _ _ (h .0) in
-        let y = both _ _ (h .1) in
-        skip (fits-passes rows 5 i field.usePorts 9 (c .before .before .before .before .before .before .before .before .before .before .before .before .fits2 .ensures (x .0)) (c .before .before .before .before .before .before .before .before .before .before .before .before .before .rows-of .ensures)) refl
-        (skip (fits-passes rows 5 i field.effectPorts 10 (c .before .before .before .before .before .before .before .before .fits3 .ensures (x .1)) (c .before .before .before .before .before .before .before .before .before .rows-of2 .ensures)) refl
-        (skip (fits-passes rows 5 i field.actions 11 (c .before .before .before .before .fits4 .ensures (y .0)) (c .before .before .before .before .before .rows-of3 .ensures)) refl
-        (fits-passes rows 5 i field.enabledModes 12 (c .fits5 .ensures (y .1)) (c .before .rows-of4 .ensures))))))
+    let h = both _ _ e in
+    let x = both _ _ (h .0) in
+    let y = both _ _ (h .1) in
+    skip (fits-passes rows 5 i field.usePorts 9 (c .before .before .before .before .before .before .before .before .before .before .before .before .fits2 .ensures (x .0)) (c .before .before .before .before .before .before .before .before .before .before .before .before .before .rows-of .ensures)) refl
+    (skip (fits-passes rows 5 i field.effectPorts 10 (c .before .before .before .before .before .before .before .before .fits3 .ensures (x .1)) (c .before .before .before .before .before .before .before .before .before .rows-of2 .ensures)) refl
+    (skip (fits-passes rows 5 i field.actions 11 (c .before .before .before .before .fits4 .ensures (y .0)) (c .before .before .before .before .before .rows-of3 .ensures)) refl
+    (fits-passes rows 5 i field.enabledModes 12 (c .fits5 .ensures (y .1)) (c .before .rows-of4 .ensures))))))
 
 pub ranges-pass-spec : {M : Type 1} → statement M
 ranges-pass-spec =

@@ -12,9 +12,9 @@ returns-4 : tie.Need-returns-4
 unfolding reactionChecks
 returns-4 c =
     sure (λ e.
-        skip (surely (c .before .before .before .before .owner-passes .ensures) (not-false _ (c .before .before .before .if2 .left))) refl
-        (skip (surely (c .before .before .effect-passes .ensures) (not-false _ (c .before .if3 .left))) refl
-        (surely (c .ranges-pass .ensures) e)))
+    skip (surely (c .before .before .before .before .owner-passes .ensures) (not-false _ (c .before .before .before .if2 .left))) refl
+    (skip (surely (c .before .before .effect-passes .ensures) (not-false _ (c .before .if3 .left))) refl
+    (surely (c .ranges-pass .ensures) e)))
 
 pub reaction-passes-spec : {M : Type 1} → statement M
 reaction-passes-spec =

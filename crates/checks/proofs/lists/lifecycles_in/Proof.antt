@@ -1,0 +1,41 @@
+-- `checks::lists::lifecycles_in` meets its contract. Assumes nothing.
+use Rattle.checks.specs.Lists.{lifecycleChecks, lifecyclesChecks}
+use Rattle.checks.specs.Image.{rowsOf, reactionsAt, lifecyclesAt}
+use Rattle.answers.proofs.Loops.{Remaining, remaining-step, remaining-stop, remaining-none}
+use Rattle.checks.proofs.PassedLaws.{passed-over}
+use borrow.Author.Needs.{needs}
+use native.Mathlib.Omega.{arith}
+use Prim.Native.Nat.{_-_}
+use Rattle.checks.proofs.lists.lifecycles_in.Statement.{statement}
+use Rattle.checks.proofs.lists.lifecycles_in.Tie as tie
+
+abbrev Inv-loop : tie.InvT-loop
+Inv-loop p s table start len k₀ k = Remaining (lifecycleChecks (rowsOf s) (reactionsAt p s) (lifecyclesAt p s) table start) k len
+
+abbrev μ-loop : tie.MeasureT-loop
+μ-loop p s table start len k₀ k = len - k
+
+returns : tie.Need-returns Inv-loop μ-loop
+unfolding lifecyclesChecks
+returns c = remaining-stop (c .before .before .before .before .loop .inv) (c .before .before .before .loop-test .taken) (c .before .before .check-lifecycle .ensures) (c .enum-told2 .given .1)
+
+returns-2 : tie.Need-returns-2 Inv-loop μ-loop
+unfolding lifecyclesChecks
+returns-2 c = remaining-none (c .before .loop .inv) (c .loop-test .left)
+
+pub lifecycles-in-spec : {M : Type 1} → statement M
+lifecycles-in-spec =
+    tie.close
+    (tie.spec
+    Inv-loop
+    μ-loop
+    (λ c κs. search needs)
+    (λ c. passed-over _ (c .lifecycles-past .ensures))
+    (λ c κs. search needs)
+    (λ c. search needs)
+    (λ c. search needs)
+    returns
+    (λ c. omega arith)
+    (λ c. omega arith)
+    (λ c. remaining-step (c .before .before .before .before .loop .inv) (c .before .before .before .loop-test .taken) (c .before .before .check-lifecycle .ensures) (c .enum-told .given .1))
+    returns-2)
