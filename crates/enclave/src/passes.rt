@@ -18,7 +18,7 @@ use row_checks::actions;
 use row_checks::bindings;
 use row_checks::modes;
 use row_checks::ports;
-use row_checks::reactions;
+use row_checks::reaction_rows;
 use row_checks::reactors;
 use schema::TableStarts;
 use schema::index::ReactorIndex;
@@ -123,7 +123,7 @@ fn check_tables<'a>(
     let Outcome::Passed = ports else {
         return ports;
     };
-    let reactions = reactions::check_reactions(p, s);
+    let reactions = reaction_rows::check_reactions(p, s);
     let Outcome::Passed = reactions else {
         return reactions;
     };

@@ -129,7 +129,7 @@ fn check_action_row(
 }
 
 // Row i of the actions, in the enclave of record n.
-pub fn check_action(p: &[u8], s: &TableStarts, n: usize, i: u32) -> Outcome
+fn check_action(p: &[u8], s: &TableStarts, n: usize, i: u32) -> Outcome
     ensures { λ r. ⌜ Decides (actionChecks (image (now (p .entry)) [] [] (now (s .entry)) n) i) r ⌝ }
 {
     let row = read::action_at(p, refs::row_number(s, ActionImage::TABLE, i));

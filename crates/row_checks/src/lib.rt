@@ -3,6 +3,6 @@ pub mod actions;
 pub mod bindings;
 pub mod modes;
 pub mod ports;
-pub mod quick;
+pub mod reaction_rows;
 pub mod reactions;
 pub mod reactors;

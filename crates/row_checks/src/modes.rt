@@ -70,7 +70,7 @@ fn check_mode_row(p: &[u8], s: &TableStarts, i: u32, row: ModeImage) -> Outcome
 }
 
 // Row i of the modes.
-pub fn check_mode(p: &[u8], s: &TableStarts, i: u32) -> Outcome
+fn check_mode(p: &[u8], s: &TableStarts, i: u32) -> Outcome
     ensures { λ r. ⌜ Decides (modeChecks (image (now (p .entry)) [] [] (now (s .entry)) 0) i) r ⌝ }
 {
     let row = read::mode_at(p, refs::row_number(s, ModeImage::TABLE, i));

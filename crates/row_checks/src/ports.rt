@@ -59,7 +59,7 @@ fn check_port_row(p: &[u8], s: &TableStarts, i: u32, row: PortImage, previous: u
 }
 
 // Row i of the ports.
-pub fn check_port(p: &[u8], s: &TableStarts, i: u32) -> Outcome
+fn check_port(p: &[u8], s: &TableStarts, i: u32) -> Outcome
     ensures { λ r. ⌜ Decides (portChecks (image (now (p .entry)) [] [] (now (s .entry)) 0) i) r ⌝ }
 {
     let row = read::port_at(p, refs::row_number(s, PortImage::TABLE, i));

@@ -3,7 +3,7 @@ ghost use mathlib.Core.Path.{_≡_};
 ghost use mathlib.Core.List.{[], _∷_};
 ghost use Prim.Native.Nat.{_<_};
 ghost use lib.Dec.{eqb};
-ghost use Rattle.answers.specs.Checks.{Decides, need, run};
+ghost use Rattle.answers.specs.Checks.{Decides, need};
 ghost use Rattle.checks.specs.Image.{image, rowsOf, startOf, scopesAt, modesAt, effectTarget, reactionPart, reactionsAt};
 ghost use Rattle.checks.specs.Refs.{rangeEnd, rangeChecks};
 ghost use Rattle.row_checks.specs.Reactions.{effectChecks, reactionOwnerChecks, reactionEndsBefore, reactionRangeChecks, reactionRow, reactionChecks};
@@ -221,23 +221,4 @@ pub fn check_reaction(p: &[u8], s: &TableStarts, i: u32) -> Outcome
 {
     let row = read::reaction_at(p, refs::row_number(s, ReactionImage::TABLE, i));
     check_reaction_row(p, s, i, row, ends_before(p, s, i))
-}
-
-// Every row of the reactions.
-pub fn check_reactions(p: &[u8], s: &TableStarts) -> Outcome
-    ensures { λ r. ⌜ Decides (run (reactionChecks (image (now (p .entry)) [] [] (now (s .entry)) 0)) 0 (rowsOf (now (s .entry)) 5)) r ⌝ }
-{
-    let rows = refs::rows_of(s, ReactionImage::TABLE);
-    let mut i = 0;
-    while i < rows {
-        let next = i + 1;
-        if !crate::quick::reaction_passes(p, s, i) {
-            let a = check_reaction(p, s, i);
-            let Outcome::Passed = a else {
-                return a;
-            };
-        }
-        i = next;
-    }
-    Outcome::Passed
 }

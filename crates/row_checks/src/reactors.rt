@@ -182,7 +182,7 @@ fn check_reactor_row(
 }
 
 // Row i of the reactors, in the enclave of record n.
-pub fn check_reactor(p: &[u8], s: &TableStarts, n: usize, i: u32) -> Outcome
+fn check_reactor(p: &[u8], s: &TableStarts, n: usize, i: u32) -> Outcome
     ensures { λ r. ⌜ Decides (reactorChecks (image (now (p .entry)) [] [] (now (s .entry)) n) i) r ⌝ }
 {
     let row = read::reactor_at(p, refs::row_number(s, ReactorImage::TABLE, i));

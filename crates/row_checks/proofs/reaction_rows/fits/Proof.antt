@@ -1,10 +1,10 @@
--- `row_checks::quick::fits` meets its contract. Assumes nothing.
+-- `row_checks::reaction_rows::fits` meets its contract. Assumes nothing.
 use native.Mathlib.Omega.{arith}
 use borrow.Author.Tests.{leb-true}
 use Rattle.row_checks.proofs.QuickLaws.{both}
 use borrow.Author.Needs.{needs}
-use Rattle.row_checks.proofs.quick.fits.Statement.{statement}
-use Rattle.row_checks.proofs.quick.fits.Tie as tie
+use Rattle.row_checks.proofs.reaction_rows.fits.Statement.{statement}
+use Rattle.row_checks.proofs.reaction_rows.fits.Tie as tie
 
 returns : tie.Need-returns
 returns c e =

@@ -1,4 +1,4 @@
--- `row_checks::reactions::check_reactions` meets its contract. Assumes nothing.
+-- `row_checks::reaction_rows::check_reactions` meets its contract. Assumes nothing.
 use Prim.Native.Nat.{_-_}
 use mathlib.Core.List.{[]}
 use native.Mathlib.Omega.{arith}
@@ -7,8 +7,8 @@ use Rattle.answers.proofs.Quick.{quick-step}
 use Rattle.answers.proofs.Loops.{Remaining, remaining-start, remaining-step, remaining-stop, remaining-none}
 use Rattle.checks.specs.Image.{image}
 use Rattle.row_checks.specs.Reactions.{reactionChecks}
-use Rattle.row_checks.proofs.reactions.check_reactions.Statement.{statement}
-use Rattle.row_checks.proofs.reactions.check_reactions.Tie as tie
+use Rattle.row_checks.proofs.reaction_rows.check_reactions.Statement.{statement}
+use Rattle.row_checks.proofs.reaction_rows.check_reactions.Tie as tie
 
 abbrev Inv-loop : tie.InvT-loop
 Inv-loop p s rows i₀ i = Remaining (reactionChecks (image p [] [] s 0)) i rows

@@ -1,12 +1,14 @@
-// A quick test of a row of reactions: where it holds the row's checks pass. Answers stay in registers; what it does not hold of is checked in full.
+// Every row of reactions: passed over where a quick test, whose answer stays in a register, sees that its checks pass, and checked in full elsewhere.
 ghost use mathlib.Core.Path.{_≡_};
 ghost use mathlib.Core.Bool.{true};
 ghost use mathlib.Core.List.{[]};
+ghost use Rattle.answers.specs.Checks.{run, Decides};
 ghost use Rattle.answers.specs.PassesIf.{PassesIf};
 ghost use Rattle.checks.specs.Image.{image, rowsOf, modesAt, reactionsAt};
 ghost use Rattle.row_checks.specs.Fits.{Fits};
 ghost use Rattle.row_checks.specs.Reactions.{effectChecks, reactionOwnerChecks, reactionEndsBefore, reactionRangeChecks, reactionChecks};
 use crate::bindings::same_kind;
+use answers::Outcome;
 use checks::refs;
 use range::SliceRange;
 use schema::TableStarts;
@@ -112,7 +114,7 @@ fn ranges_pass(p: &[u8], s: &TableStarts, i: u32) -> bool
 }
 
 // Row i of the reactions. Records past the pack are left to the full check, here and above, so that the readers need not test for them again.
-pub fn reaction_passes(p: &[u8], s: &TableStarts, i: u32) -> bool
+fn reaction_passes(p: &[u8], s: &TableStarts, i: u32) -> bool
     ensures { λ r. ⌜ PassesIf (reactionChecks (image (now (p .entry)) [] [] (now (s .entry)) 0) i) r ⌝ }
 {
     if p.len() / 64 <= refs::row_number(s, ReactionImage::TABLE, i) {
@@ -125,4 +127,23 @@ pub fn reaction_passes(p: &[u8], s: &TableStarts, i: u32) -> bool
         return false;
     }
     ranges_pass(p, s, i)
+}
+
+// Every row of the reactions.
+pub fn check_reactions(p: &[u8], s: &TableStarts) -> Outcome
+    ensures { λ r. ⌜ Decides (run (reactionChecks (image (now (p .entry)) [] [] (now (s .entry)) 0)) 0 (rowsOf (now (s .entry)) 5)) r ⌝ }
+{
+    let rows = refs::rows_of(s, ReactionImage::TABLE);
+    let mut i = 0;
+    while i < rows {
+        let next = i + 1;
+        if !reaction_passes(p, s, i) {
+            let a = crate::reactions::check_reaction(p, s, i);
+            let Outcome::Passed = a else {
+                return a;
+            };
+        }
+        i = next;
+    }
+    Outcome::Passed
 }

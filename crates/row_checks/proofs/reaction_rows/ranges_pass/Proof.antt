@@ -1,4 +1,4 @@
--- `row_checks::quick::ranges_pass` meets its contract. Assumes nothing.
+-- `row_checks::reaction_rows::ranges_pass` meets its contract. Assumes nothing.
 use mathlib.Core.Path.{refl}
 use borrow.Author.Tests.{ne-eqb}
 use denote.Ref.{now}
@@ -9,8 +9,8 @@ use Rattle.checks.specs.Image.{rowsOf}
 use Rattle.row_checks.specs.Reactions.{reactionEndsBefore}
 use Rattle.row_checks.proofs.QuickLaws.{both, fits-passes}
 use borrow.Author.Needs.{needs}
-use Rattle.row_checks.proofs.quick.ranges_pass.Statement.{statement}
-use Rattle.row_checks.proofs.quick.ranges_pass.Tie as tie
+use Rattle.row_checks.proofs.reaction_rows.ranges_pass.Statement.{statement}
+use Rattle.row_checks.proofs.reaction_rows.ranges_pass.Tie as tie
 
 returns-3 : tie.Need-returns-3
 unfolding reactionEndsBefore

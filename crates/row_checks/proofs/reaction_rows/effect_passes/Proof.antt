@@ -1,10 +1,10 @@
--- `row_checks::quick::effect_passes` meets its contract. Assumes nothing.
+-- `row_checks::reaction_rows::effect_passes` meets its contract. Assumes nothing.
 use borrow.Author.Tests.{lt-ltb}
 use Rattle.answers.proofs.Laws.{none, pass}
 use Rattle.answers.proofs.Quick.{unsure, sure}
 use borrow.Author.Needs.{needs}
-use Rattle.row_checks.proofs.quick.effect_passes.Statement.{statement}
-use Rattle.row_checks.proofs.quick.effect_passes.Tie as tie
+use Rattle.row_checks.proofs.reaction_rows.effect_passes.Statement.{statement}
+use Rattle.row_checks.proofs.reaction_rows.effect_passes.Tie as tie
 
 returns : tie.Need-returns
 returns c = rw (← c .before .before .before .row-number .ensures, ← c .before .before .reaction-mode-effect-at .ensures, c .enum-told .given .1) (sure (λ e. none))

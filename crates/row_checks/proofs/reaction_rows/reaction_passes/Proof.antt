@@ -1,12 +1,12 @@
--- `row_checks::quick::reaction_passes` meets its contract. Assumes nothing.
+-- `row_checks::reaction_rows::reaction_passes` meets its contract. Assumes nothing.
 use mathlib.Core.Path.{refl, sym}
 use borrow.Author.Tests.{not-false}
 use Rattle.answers.proofs.Laws.{skip}
 use Rattle.answers.proofs.Quick.{unsure, sure, surely}
 use Rattle.row_checks.specs.Reactions.{reactionChecks}
 use borrow.Author.Needs.{needs}
-use Rattle.row_checks.proofs.quick.reaction_passes.Statement.{statement}
-use Rattle.row_checks.proofs.quick.reaction_passes.Tie as tie
+use Rattle.row_checks.proofs.reaction_rows.reaction_passes.Statement.{statement}
+use Rattle.row_checks.proofs.reaction_rows.reaction_passes.Tie as tie
 
 returns-4 : tie.Need-returns-4
 unfolding reactionChecks

@@ -1,11 +1,11 @@
--- `row_checks::quick::owner_passes` meets its contract. Assumes nothing.
+-- `row_checks::reaction_rows::owner_passes` meets its contract. Assumes nothing.
 use mathlib.Core.Path.{_∙_, sym}
 use borrow.Author.Tests.{lt-ltb, not-false}
 use Rattle.answers.proofs.Laws.{none, pass}
 use Rattle.answers.proofs.Quick.{unsure, sure}
 use borrow.Author.Needs.{needs}
-use Rattle.row_checks.proofs.quick.owner_passes.Statement.{statement}
-use Rattle.row_checks.proofs.quick.owner_passes.Tie as tie
+use Rattle.row_checks.proofs.reaction_rows.owner_passes.Statement.{statement}
+use Rattle.row_checks.proofs.reaction_rows.owner_passes.Tie as tie
 
 returns-5 : tie.Need-returns-5
 returns-5 c =
