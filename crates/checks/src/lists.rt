@@ -223,8 +223,8 @@ fn levels_past(p: &[u8], s: &TableStarts, table: u8, start: u32, len: u32) -> u3
     k
 }
 
-// The entries of a range of reactions by level. Those not seen to pass at once are checked one by one, for the refusal.
-fn levels_in(p: &[u8], s: &TableStarts, table: u8, start: u32, len: u32) -> Outcome
+// The `len` entries from `start` of a table of reactions by level. Those not seen to pass at once are checked one by one, for the refusal.
+fn check_levels(p: &[u8], s: &TableStarts, table: u8, start: u32, len: u32) -> Outcome
     requires { ⌜ table < 25 ⌝ }
     ensures { λ r. ⌜ Decides (levelsChecks (rowsOf (now (s .entry))) (reactionsAt (now (p .entry)) (now (s .entry))) (levelsAt (now (p .entry)) (now (s .entry))) table start len) r ⌝ }
 {
@@ -239,7 +239,7 @@ fn levels_in(p: &[u8], s: &TableStarts, table: u8, start: u32, len: u32) -> Outc
     Outcome::Passed
 }
 
-// The `len` entries from `start` of a table of reactions by level. Most ranges are empty: they cost no call.
+// The same. An empty range, the usual one, is answered at once.
 pub fn validate_levels(p: &[u8], s: &TableStarts, table: u8, start: u32, len: u32) -> Outcome
     requires { ⌜ table < 25 ⌝ }
     ensures { λ r. ⌜ Decides (levelsChecks (rowsOf (now (s .entry))) (reactionsAt (now (p .entry)) (now (s .entry))) (levelsAt (now (p .entry)) (now (s .entry))) table start len) r ⌝ }
@@ -247,10 +247,10 @@ pub fn validate_levels(p: &[u8], s: &TableStarts, table: u8, start: u32, len: u3
     if len == 0 {
         return Outcome::Passed;
     }
-    levels_in(p, s, table, start, len)
+    check_levels(p, s, table, start, len)
 }
 
-// The same for lifecycle reactions, whose actions are there too.
+// How many of the `len` lifecycle reactions from `start` are seen to pass, in the same way: the action is there too.
 fn lifecycles_past(p: &[u8], s: &TableStarts, table: u8, start: u32, len: u32) -> u32
     requires { ⌜ table < 25 ⌝ }
     ensures { λ r. ⌜ PassedOver (lifecycleChecks (rowsOf (now (s .entry))) (reactionsAt (now (p .entry)) (now (s .entry))) (lifecyclesAt (now (p .entry)) (now (s .entry))) table start) len r ⌝ }
@@ -275,8 +275,8 @@ fn lifecycles_past(p: &[u8], s: &TableStarts, table: u8, start: u32, len: u32) -
     k
 }
 
-// The entries of a range of lifecycle reactions, in the same way.
-fn lifecycles_in(p: &[u8], s: &TableStarts, table: u8, start: u32, len: u32) -> Outcome
+// The `len` entries from `start` of a table of lifecycle reactions, likewise.
+fn check_lifecycles(p: &[u8], s: &TableStarts, table: u8, start: u32, len: u32) -> Outcome
     requires { ⌜ table < 25 ⌝ }
     ensures { λ r. ⌜ Decides (lifecyclesChecks (rowsOf (now (s .entry))) (reactionsAt (now (p .entry)) (now (s .entry))) (lifecyclesAt (now (p .entry)) (now (s .entry))) table start len) r ⌝ }
 {
@@ -291,7 +291,7 @@ fn lifecycles_in(p: &[u8], s: &TableStarts, table: u8, start: u32, len: u32) -> 
     Outcome::Passed
 }
 
-// The `len` entries from `start` of a table of lifecycle reactions.
+// The same. An empty range, the usual one, is answered at once.
 pub fn validate_lifecycle(p: &[u8], s: &TableStarts, table: u8, start: u32, len: u32) -> Outcome
     requires { ⌜ table < 25 ⌝ }
     ensures { λ r. ⌜ Decides (lifecyclesChecks (rowsOf (now (s .entry))) (reactionsAt (now (p .entry)) (now (s .entry))) (lifecyclesAt (now (p .entry)) (now (s .entry))) table start len) r ⌝ }
@@ -299,5 +299,5 @@ pub fn validate_lifecycle(p: &[u8], s: &TableStarts, table: u8, start: u32, len:
     if len == 0 {
         return Outcome::Passed;
     }
-    lifecycles_in(p, s, table, start, len)
+    check_lifecycles(p, s, table, start, len)
 }

@@ -17,7 +17,7 @@ returns-3 : tie.Need-returns-3
 returns-3 c t i =
     let a = c .before .before .before .before .args in
     rw (ne-eqb _ _ (c .if2 .left))
-    (sure (λ e. skip (record { is = sym (c .before .before .has-level .ensures t i .passes (not-false _ (c .before .if1 .left))) }) refl (rises (a .before) (a .pair) (ltb-true _ _ e))))
+    (sure (λ e. skip (record { is = sym (c .before .before .has-level .ensures t i .passes (not-false _ (c .before .if1 .left))) }) refl (rises (a .before) (a .pair) (ltb-true (a .before) (a .pair) e))))
 
 pub level-passes-spec : {M : Type 1} → statement M
 level-passes-spec = tie.close (tie.spec

@@ -1,4 +1,4 @@
--- `checks::lists::lifecycles_in` meets its contract. Assumes nothing.
+-- `checks::lists::check_lifecycles` meets its contract. Assumes nothing.
 use Rattle.checks.specs.Lists.{lifecycleChecks, lifecyclesChecks}
 use Rattle.checks.specs.Image.{rowsOf, reactionsAt, lifecyclesAt}
 use Rattle.answers.proofs.Loops.{Remaining, remaining-step, remaining-stop, remaining-none}
@@ -6,8 +6,8 @@ use Rattle.checks.proofs.PassedLaws.{passed-over}
 use borrow.Author.Needs.{needs}
 use native.Mathlib.Omega.{arith}
 use Prim.Native.Nat.{_-_}
-use Rattle.checks.proofs.lists.lifecycles_in.Statement.{statement}
-use Rattle.checks.proofs.lists.lifecycles_in.Tie as tie
+use Rattle.checks.proofs.lists.check_lifecycles.Statement.{statement}
+use Rattle.checks.proofs.lists.check_lifecycles.Tie as tie
 
 abbrev Inv-loop : tie.InvT-loop
 Inv-loop p s table start len k₀ k = Remaining (lifecycleChecks (rowsOf s) (reactionsAt p s) (lifecyclesAt p s) table start) k len
@@ -23,8 +23,8 @@ returns-2 : tie.Need-returns-2 Inv-loop μ-loop
 unfolding lifecyclesChecks
 returns-2 c = remaining-none (c .before .loop .inv) (c .loop-test .left)
 
-pub lifecycles-in-spec : {M : Type 1} → statement M
-lifecycles-in-spec =
+pub check-lifecycles-spec : {M : Type 1} → statement M
+check-lifecycles-spec =
     tie.close
     (tie.spec
     Inv-loop

@@ -1,4 +1,4 @@
--- `checks::lists::levels_in` meets its contract. Assumes nothing.
+-- `checks::lists::check_levels` meets its contract. Assumes nothing.
 use Rattle.checks.specs.Lists.{levelChecks, levelsChecks}
 use Rattle.checks.specs.Image.{rowsOf, reactionsAt, levelsAt}
 use Rattle.answers.proofs.Loops.{Remaining, remaining-step, remaining-stop, remaining-none}
@@ -6,8 +6,8 @@ use Rattle.checks.proofs.PassedLaws.{passed-over}
 use borrow.Author.Needs.{needs}
 use native.Mathlib.Omega.{arith}
 use Prim.Native.Nat.{_-_}
-use Rattle.checks.proofs.lists.levels_in.Statement.{statement}
-use Rattle.checks.proofs.lists.levels_in.Tie as tie
+use Rattle.checks.proofs.lists.check_levels.Statement.{statement}
+use Rattle.checks.proofs.lists.check_levels.Tie as tie
 
 abbrev Inv-loop : tie.InvT-loop
 Inv-loop p s table start len k₀ k = Remaining (levelChecks (rowsOf s) (reactionsAt p s) (levelsAt p s) table start) k len
@@ -23,8 +23,8 @@ returns-2 : tie.Need-returns-2 Inv-loop μ-loop
 unfolding levelsChecks
 returns-2 c = remaining-none (c .before .loop .inv) (c .loop-test .left)
 
-pub levels-in-spec : {M : Type 1} → statement M
-levels-in-spec =
+pub check-levels-spec : {M : Type 1} → statement M
+check-levels-spec =
     tie.close
     (tie.spec
     Inv-loop
