@@ -65,6 +65,6 @@ pub fn check_enclave<'a>(pack: &'a [u8], batch: &'a [u8], house: &'a [u8]) -> En
     let Outcome::Passed = packed else {
         return refused(packed);
     };
-    let s = packing::starts::table_starts(pack, 1);
+    let s = packing::starts::table_starts(pack, 1, true);
     check_image(pack, batch, house, &s, 0)
 }

@@ -11,10 +11,11 @@ use borrow.Author.Tests.{ltb-true, ltb-false, leb-true, leb-false, not-false, lt
 use Rattle.schema.specs.Rows.{byteOf}
 use Rattle.packing.specs.Starts.{recordsOf, reaches, firstReaching, tableStarts}
 use Rattle.packing.proofs.TableStarts.{starts-at, starts-from}
+use Rattle.packing.proofs.Packed.{rows-above, rise}
 use Rattle.checks.specs.Image.{startOf, rowsOf}
 use Rattle.larger_bounds.specs.Packs.{Packed}
 use Rattle.larger_bounds.proofs.Tests.{cases, neither}
-use Rattle.larger_bounds.proofs.Packed.{records, enclave-first, rows-above}
+use Rattle.larger_bounds.proofs.Packed.{records, enclave-first}
 
 module _ (p : List ℕ) (t : ℕ) where
   not-reached : (k : ℕ) → reaches p t k ≡ false → (k < recordsOf p) × (2 ≤ byteOf p k 0) × (byteOf p k 0 < t)
@@ -44,15 +45,6 @@ module _ (p batch house : List ℕ) (h : Packed p batch house) where
   abbrev start : ℕ → ℕ
   start t = startOf (tableStarts p 1) t
 
-  rise : (a n : ℕ) → a ≤ n → n < length p / 64 → byteOf p a 0 ≤ byteOf p n 0
-  rise a zero l u = let x : a ≡ 0 = omega arith in rw x (omega arith)
-  rise a (suc n) l u =
-      let i = rise a n in
-      elim (decLe a n) [
-        | yes g ↦ (let e = i g (omega arith) in let r = rows-above p batch house h n u .1 in omega arith)
-        | no g ↦ (let x : a ≡ suc n = omega arith in rw x (omega arith))
-      ]
-
   row-table : (n : ℕ) → 1 ≤ n → n < length p / 64 → 2 ≤ byteOf p n 0
   row-table zero l u = absurd (omega arith)
   row-table (suc n) l u = rows-above p batch house h n u .0
@@ -65,7 +57,7 @@ module _ (p batch house : List ℕ) (h : Packed p batch house) where
       let f = starts-from p 1 t k in
       let g = row-table (start t) f (omega arith) in
       let a = reached p t (start t) (rw e (at-first p t (recordsOf p) 1 (rw (sym e) (omega arith)))) (omega arith) g in
-      let b = rise (start t) n l u in
+      let b = rise p batch house h (start t) n l u in
       omega arith
 
   before-start : (t n : ℕ) → t < 26 → 1 ≤ n → n < start t → (n < length p / 64) × (byteOf p n 0 < t)

@@ -3,6 +3,7 @@ pub mod Tables
 pub mod Zeros
 pub mod Records
 pub mod TableStarts
+pub mod Packed
 pub mod CleanRuns
 pub mod CheckRuns
 pub mod Places

@@ -6,15 +6,15 @@ use mathlib.Core.List.{List, [], _∷_}
 use native.Mathlib.Nat.{add-zero}
 use native.Mathlib.Numerals.{add-one}
 use native.Mathlib.Omega.{arith}
-use lib.Dec.{ltb, leb}
+use lib.Dec.{ltb, leb, eqb}
 use lib.ListN.{length, getD, take, set, length-set, length-append, List·getD-append}
 use lib.Seq.{getD-at, take-suc-set, take-all}
-use borrow.Author.Tests.{ltb-true, ltb-false, leb-false, lt-ltb, le-ltb, lt-leb, le-leb}
+use borrow.Author.Tests.{ltb-true, ltb-false, leb-false, eqb-true, lt-ltb, le-ltb, lt-leb, le-leb}
 use Rattle.schema.specs.Rows.{byteOf}
-use Rattle.packing.proofs.Tests.{cases, neither, and-next}
+use Rattle.packing.proofs.Tests.{cases, both, neither, and-next}
 use Rattle.packing.proofs.Records.{table-at}
 use Rattle.packing.specs.Starts.{recordsOf, reaches, firstReaching, tableStart, startsBelow, tableStarts}
-use Rattle.packing.specs.Runs.{OneTable, Reached, FixedAt, startsAt}
+use Rattle.packing.specs.Runs.{OneTable, ofTable, Rising, Reached, FixedAt, startsAt}
 
 reaching : (a b : Bool) (d e : ℕ) → not a || (b || leb d e) ≡ false → (a ≡ true) × (e < d)
 reaching true true d e h = absurd (true≢false h)
@@ -168,7 +168,25 @@ module _ (p : List ℕ) (rows : ℕ) where
       let m : t < 26 = omega arith in
       rw (starts-at t m, starts-at u h) (first-rises p t u (recordsOf p) rows l)
 
--- the loop over the records of one table
+-- whether there is a record n of table t, with m the records looked at
+module _ (p : List ℕ) (n t m : ℕ) (e : m ≡ recordsOf p) where
+  pub of-end : m ≤ n → false ≡ ofTable p n t
+  of-end h = rw (le-ltb n (recordsOf p) (rw e at h))
+
+  pub of-inside : n < m → eqb (getD p (n * 64) 0) t ≡ ofTable p n t
+  of-inside h = rw (lt-ltb n (recordsOf p) (rw e at h), add-zero)
+
+-- there is a record n, of record k's table
+pub record Alike (p : List ℕ) (k n : ℕ) : Type 0 where
+  pub inside : n < recordsOf p
+  pub same : byteOf p n 0 ≡ byteOf p k 0
+
+pub alike : (p : List ℕ) (k n : ℕ) {r : Bool} → r ≡ ofTable p n (getD p (k * 64) 0) → r ≡ true → Alike p k n
+alike p k n e h =
+    let b = both (ltb n (recordsOf p)) (eqb (byteOf p n 0) (getD p (k * 64) 0)) (sym e ∙ h) in
+    record { inside = ltb-true n (recordsOf p) (b .0); same = eqb-true (byteOf p n 0) _ (b .1) ∙ sym (table-at p k) }
+
+-- the loops over the records of one table
 pub one-start : (p : List ℕ) (k : ℕ) → k < recordsOf p → OneTable p k (k + 1)
 one-start p k h =
     record {
@@ -177,14 +195,30 @@ one-start p k h =
       same = λ j l g. let e : j ≡ k = omega arith in rw e;
     }
 
-pub one-more : {p : List ℕ} {k r : ℕ} (a b : ℕ) → OneTable p k r → r < recordsOf p → a ≡ getD p (k * 64) 0 → b ≡ getD p (r * 64) 0 → b ≡ a → OneTable p k (r + 1)
-one-more {p} {k} {r} a b o h e f q =
-    let g = o .after in
-    record {
-      after = omega arith;
-      inside = omega arith;
-      same = and-next (λ j. byteOf p j 0 ≡ byteOf p k 0) k r (o .same) (table-at p r ∙ sym f ∙ q ∙ e ∙ sym (table-at p k));
-    }
+module _ {p : List ℕ} {k n : ℕ} (a : Alike p k n) where
+  pub one-more : OneTable p k n → OneTable p k (n + 1)
+  one-more o =
+      let g = o .after in
+      let i = a .inside in
+      record {
+        after = omega arith;
+        inside = omega arith;
+        same = and-next (λ j. byteOf p j 0 ≡ byteOf p k 0) k n (o .same) (a .same);
+      }
+
+  -- where the tables rise, all records between are of the table too
+  pub one-leap : Rising p → k ≤ n → OneTable p k (n + 1)
+  one-leap s l =
+      let i = a .inside in
+      let e = a .same in
+      record {
+        after = omega arith;
+        inside = omega arith;
+        same = λ j g m.
+            let x = s .rise k j g (omega arith) in
+            let y = s .rise j n (omega arith) i in
+            omega arith;
+      }
 
 -- the loop over the starts at one record
 pub at-none : (k last t : ℕ) (s : List ℕ) → FixedAt k last t s t s

@@ -1,9 +1,9 @@
--- Auxiliary: what the contracts of functions inside this crate cite, and not those of `check_packing` and `table_starts`. Assumes nothing.
+-- Auxiliary: what the contracts of functions inside this crate cite; of this, `table_starts` cites only `Rising`, and `check_packing` nothing. Assumes nothing.
 use Prim.Native.Nat.{ℕ, zero, suc, _+_, _-_, _/_, _<_, _≤_}
 use mathlib.Core.Bool.{Bool, true, false, _&&_}
 use mathlib.Core.Path.{_≡_}
 use mathlib.Core.List.{List}
-use lib.Dec.{eqb}
+use lib.Dec.{ltb, eqb}
 use lib.ListN.{getD, length, set}
 use Rattle.answers.specs.Checks.{Check, run}
 use Rattle.schema.specs.Rows.{byteOf}
@@ -17,6 +17,14 @@ pub record OneTable (p : List ℕ) (k r : ℕ) : Type 0 where
   pub after : k < r
   pub inside : r ≤ recordsOf p
   pub same : (j : ℕ) → k ≤ j → j < r → byteOf p j 0 ≡ byteOf p k 0
+
+-- there is a record n, and it is of table t
+abbrev pub ofTable : List ℕ → ℕ → ℕ → Bool
+ofTable p n t = ltb n (recordsOf p) && eqb (byteOf p n 0) t
+
+-- no record is of a later table than one after it
+pub record Rising (p : List ℕ) : Type 0 where
+  pub rise : (j k : ℕ) → j ≤ k → k < recordsOf p → byteOf p j 0 ≤ byteOf p k 0
 
 -- record k reaches the tables up to r, and none of those after it
 pub record Reached (p : List ℕ) (k r : ℕ) : Type 0 where

@@ -11,10 +11,10 @@ use Rattle.packing.proofs.starts.table_starts.Statement.{statement}
 use Rattle.packing.proofs.starts.table_starts.Tie as tie
 
 abbrev Inv-loop : tie.InvT-loop
-Inv-loop p rows records starts₀ t₀ k₀ starts t k = Fixed p rows starts t k
+Inv-loop p rows rising records starts₀ t₀ k₀ starts t k = Fixed p rows starts t k
 
 abbrev μ-loop : tie.MeasureT-loop
-μ-loop p rows records starts₀ t₀ k₀ starts t k = recordsOf p - k
+μ-loop p rows rising records starts₀ t₀ k₀ starts t k = recordsOf p - k
 
 -- the starts that record k reaches are fixed
 fixed : (c : tie.After-fix-starts Inv-loop μ-loop) → Fixed (now (c .before .before .before .before .before .before .args .p)) (c .before .before .before .before .before .before .args .rows) (c .fix-starts .last .0) (c .fix-starts .result) (c .before .before .before .loop .k)
@@ -26,8 +26,9 @@ short c = c .before .before .reached .ensures .others _ (c .before .fix-starts .
 
 inside : tie.Need-past-table-requires Inv-loop μ-loop
 inside c κs =
+    let s = c .before .before .before .before .before .before .before in
     let e = c .before .before .before .before .before .records-of .ensures in
-    (e, rw e (not-reached (now (c .before .before .before .before .before .before .before .args .p)) (c .before .fix-starts .result) _ (short c) .0))
+    (e, (rw e (not-reached (now (s .args .p)) (c .before .fix-starts .result) _ (short c) .0), s .pre))
 
 pub table-starts-spec : {M : Type 1} → statement M
 table-starts-spec =
