@@ -6,15 +6,15 @@ ghost use Rattle.identity.specs.Text.{identityText};
 ghost use Rattle.identity.specs.Order.{compared};
 ghost use Rattle.federate.specs.RouteOrder.{boundaryAt, before, Ordered, Merged, Sorted, Picks};
 use identity::ByteOrder;
-use schema::read;
+use schema::parts;
 
 // The order of the boundaries of records a and b.
 pub fn order_of<'a>(pack: &'a [u8], batch: &'a [u8], house: &'a [u8], a: u32, b: u32) -> ByteOrder
     ensures { λ r. ⌜ r ≡ compared (boundaryAt (identityText (now (batch .entry)) (now (house .entry))) (now (pack .entry)) a) (boundaryAt (identityText (now (batch .entry)) (now (house .entry))) (now (pack .entry)) b) ⌝ }
 {
-    let one = read::route_at(pack, a as usize);
-    let other = read::route_at(pack, b as usize);
-    identity::compare_places(batch, house, one.boundary, other.boundary)
+    let one = parts::route_boundary_at(pack, a as usize);
+    let other = parts::route_boundary_at(pack, b as usize);
+    identity::compare_places(batch, house, one, other)
 }
 
 // Whether a comes before b, or is it: by its boundary, then by its number.

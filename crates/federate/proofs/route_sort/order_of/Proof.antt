@@ -9,4 +9,4 @@ order-of-spec =
     (λ c κs. search needs)
     (λ c κs. search needs)
     (λ c κs. search needs)
-    (λ c. rw (← c .before .before .route-at .ensures, ← c .before .route-at2 .ensures) (c .compare-places .ensures)))
+    (λ c. rw (← c .before .before .route-boundary-at .ensures, ← c .before .route-boundary-at2 .ensures) (c .compare-places .ensures)))
