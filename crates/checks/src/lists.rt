@@ -250,6 +250,17 @@ pub fn validate_levels(p: &[u8], s: &TableStarts, table: u8, start: u32, len: u3
     check_levels(p, s, table, start, len)
 }
 
+// A quick test of the `len` entries from `start`, for callers that have many ranges: where it is true they pass, and where it is false nothing is said.
+pub fn levels_pass(p: &[u8], s: &TableStarts, table: u8, start: u32, len: u32) -> bool
+    requires { ⌜ table < 25 ⌝ }
+    ensures { λ r. ⌜ PassesIf (levelsChecks (rowsOf (now (s .entry))) (reactionsAt (now (p .entry)) (now (s .entry))) (levelsAt (now (p .entry)) (now (s .entry))) table start len) r ⌝ }
+{
+    if len == 0 {
+        return true;
+    }
+    levels_past(p, s, table, start, len) == len
+}
+
 // How many of the `len` lifecycle reactions from `start` are seen to pass, in the same way: the action is there too.
 fn lifecycles_past(p: &[u8], s: &TableStarts, table: u8, start: u32, len: u32) -> u32
     requires { ⌜ table < 25 ⌝ }
