@@ -3,7 +3,7 @@ ghost use mathlib.Core.Path.{_≡_};
 ghost use Prim.Native.Nat.{_+_, _*_, _/_, _%_, _<_};
 ghost use lib.Dec.{eqb};
 ghost use Rattle.schema.specs.Number.{number, Words};
-ghost use Rattle.schema.specs.Rows.{byteOf, enclaveAt, reactorAt, actionAt, portAt, reactionAt, modeAt, scopeAt, startupAt, lifecycleAt, routeAt, bindingAt};
+ghost use Rattle.schema.specs.Rows.{byteOf, enclaveAt, reactorAt, actionAt, portAt, reactionAt, modeAt, scopeAt, lifecycleAt, routeAt, bindingAt};
 use crate::index::ActionIndex;
 use crate::index::BindingKind;
 use crate::index::BindingSlotIndex;
@@ -12,7 +12,6 @@ use crate::index::MaybeModeEffect;
 use crate::index::MaybeScope;
 use crate::index::PortIndex;
 use crate::index::ReactorIndex;
-use crate::index::RouteDirection;
 use crate::index::ScopeIndex;
 use crate::lists::LevelReactionImage;
 use crate::number::high;
@@ -20,7 +19,6 @@ use crate::number::low;
 use crate::number::words;
 use crate::read::bit;
 use crate::read::byte_of;
-use crate::read::direction_of;
 use crate::read::kind_of;
 use crate::read::maybe_effect;
 use crate::read::maybe_mode;
@@ -252,13 +250,6 @@ pub fn scope_shutdown_reactions_at(p: &[u8], n: usize) -> SliceRange
     range_at(p, n, 56)
 }
 
-// The action of a startup.
-pub fn startup_action_at(p: &[u8], n: usize) -> ActionIndex
-    ensures { λ r. ⌜ r ≡ startupAt (now (p .entry)) n .action ⌝ }
-{
-    ActionIndex(word_at(p, n, 4))
-}
-
 // The action of a lifecycle reaction, and its level and reaction.
 pub fn lifecycle_action_at(p: &[u8], n: usize) -> ActionIndex
     ensures { λ r. ⌜ r ≡ lifecycleAt (now (p .entry)) n .action ⌝ }
@@ -294,10 +285,4 @@ pub fn route_port_at(p: &[u8], n: usize) -> PortIndex
     ensures { λ r. ⌜ r ≡ routeAt (now (p .entry)) n .«local_port» ⌝ }
 {
     PortIndex(word_at(p, n, 12))
-}
-
-pub fn route_direction_at(p: &[u8], n: usize) -> RouteDirection
-    ensures { λ r. ⌜ r ≡ routeAt (now (p .entry)) n .direction ⌝ }
-{
-    direction_of(bit(byte_at(p, n, 2), 1))
 }

@@ -228,7 +228,7 @@ pub fn kind_of(k: u8) -> BindingKind
     }
 }
 
-pub fn direction_of(outbound: bool) -> RouteDirection
+fn direction_of(outbound: bool) -> RouteDirection
     ensures { λ r. ⌜ r ≡ directionOf outbound ⌝ }
 {
     if outbound {
