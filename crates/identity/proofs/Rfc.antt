@@ -14,7 +14,7 @@ use Rattle.identity.specs.Utf8.{allowed, allAllowed, encode, encodeAll, 
 use Rattle.identity.specs.Utf8.{Scalars, some, none, before, decode, decodeAfter, isSome}
 use Rattle.identity.specs.Rfc3629.{Encodes, Utf8IsEncoding, DecodeInvertsEncode}
 use Rattle.identity.proofs.Tests.{cases, both, within-in}
-use Rattle.identity.proofs.Scalar.{one-byte, by-two, by-three, by-four, Follows, no-byte}
+use Rattle.identity.proofs.Scalar.{one-byte, by-two, by-three, by-four, checked-scalar, Follows, is-follow, no-byte}
 use Rattle.identity.proofs.Scalar.{Form, one, two, three, four, form-at, width-at, decode-at, decode-malformed}
 
 -- all that is asked of `allowed`
@@ -29,12 +29,6 @@ allowed-low v h = le-leb v 0x10FFFF (omega arith)
 -- the bytes of each form give its scalar
 is-one : (a : ℕ) (t : List ℕ) → a < 0x80 → scalarAt (a ∷ t) 0 ≡ Scalar a 1
 is-one a t h = sym (one-byte (a ∷ t) 0 a h refl)
-
-checked-scalar : (following : Bool) (low v w : ℕ) → following ≡ true → low ≤ v → allowed v ≡ true → Scalar v w ≡ checked following low v w
-checked-scalar following low v w f l n = rw (f, le-leb low v l, n)
-
-is-follow : (b : ℕ) → Follows b → follows b ≡ true
-is-follow b f = within-in 0x80 0xBF b (f .low) (f .high)
 
 is-two : (a b : ℕ) (t : List ℕ) → 0xC2 ≤ a → a < 0xE0 → Follows b → allowed (valueOfTwo a b) ≡ true → scalarAt (a ∷ b ∷ t) 0 ≡ Scalar (valueOfTwo a b) 2
 is-two a b t l h f n =

@@ -6,7 +6,7 @@ use mathlib.Core.List.{List, [], _∷_}
 use native.Mathlib.Nat.{add-zero, zero-add}
 use native.Mathlib.Omega.{arith}
 use lib.Dec.{leb, ltb}
-use borrow.Author.Tests.{leb-true, ltb-true, ltb-false}
+use borrow.Author.Tests.{leb-true, le-leb, ltb-true, ltb-false}
 use mir.Syntax.{w64}
 use mir.Val.{Fits}
 use mir.Facts.{fits-le}
@@ -113,12 +113,18 @@ pub ruleset scalar-laws = (one-byte, no-first, by-two, by-three, by-four, past-f
 pub ascii-scalar : (s : List ℕ) (i : ℕ) → getD s i 0 < 0x80 → scalarAt s i ≡ Scalar (getD s i 0) 1
 ascii-scalar s i h = sym (one-byte s i (getD s i 0) h refl)
 
+pub checked-scalar : (following : Bool) (low v w : ℕ) → following ≡ true → low ≤ v → allowed v ≡ true → Scalar v w ≡ checked following low v w
+checked-scalar following low v w f l n = rw (f, le-leb low v l, n)
+
 pub record Follows (b : ℕ) : Type 0 where
   pub low : 0x80 ≤ b
   pub high : b ≤ 0xBF
 
 pub follow : (b : ℕ) → follows b ≡ true → Follows b
 follow b e = let h = within-true 0x80 0xBF b e in record { low = h .0; high = h .1 }
+
+pub is-follow : (b : ℕ) → Follows b → follows b ≡ true
+is-follow b f = within-in 0x80 0xBF b (f .low) (f .high)
 
 -- what a scalar's bytes are, form by form
 pub data Form (a b c d : ℕ) : Decoded → Type 0 where

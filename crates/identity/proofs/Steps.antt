@@ -1,12 +1,13 @@
 -- Runs of places that pass a test, and the steps of a scan. Assumes nothing.
 use Prim.Native.Nat.{ℕ, zero, suc, _+_, _-_, _<_, _≤_}
-use mathlib.Core.Bool.{Bool, true, false, _&&_}
+use mathlib.Core.Bool.{Bool, true, false, not, _&&_}
 use mathlib.Core.Path.{_≡_, refl, _∙_, sym}
 use native.Mathlib.Nat.{add-zero, zero-add, add-suc}
 use native.Mathlib.Numerals.{add-one}
 use native.Mathlib.Omega.{arith}
-use Rattle.identity.specs.Scan.{every, Run, Stepped}
-use Rattle.identity.proofs.Tests.{both, and-true, and-assoc}
+use borrow.Author.Tests.{not-true}
+use Rattle.identity.specs.Scan.{every, Run, Passed, Stepped}
+use Rattle.identity.proofs.Tests.{below-or-not, failed, both, and-true, and-assoc}
 
 every-add : (test : ℕ → Bool) (o i k : ℕ) → every test o (i + k) ≡ every test o i && every test (o + i) k
 unfolding every
@@ -14,6 +15,18 @@ every-add test o i zero = rw add-zero (sym (and-true (every test o i)))
 every-add test o i (suc k) =
     let e : o + (i + k) ≡ (o + i) + k = omega arith in
     rw (add-suc, every-add test o i k, e) (and-assoc (every test o i) (every test (o + i) k) _)
+
+-- one place of a run
+pub every-at : (test : ℕ → Bool) (o k j : ℕ) → every test o k ≡ true → o ≤ j → j < o + k → test j ≡ true
+unfolding every
+every-at test o zero j e l h = absurd (below j (omega arith))
+  where
+    below : (j : ℕ) → j < j → ⊥
+    below j h = omega arith
+every-at test o (suc k) j e l h =
+    let b = both (every test o k) (test (o + k)) e in
+    below-or-not j (o + k) (λ t. every-at test o k j (b .0) l t)
+    (λ t. let n : o + k ≡ j = omega arith in rw n at (b .1))
 
 -- a block's own loop
 pub every-none : (test : ℕ → Bool) (o : ℕ) → true ≡ every test o 0
@@ -86,6 +99,19 @@ module _ (good : ℕ → Bool) (end i : ℕ) where
   pub moved-along : (test : ℕ → Bool) (k : ℕ) → i + k ≤ end → every test i k ≡ true → (k ≡ 0 → ⊥) → ((j : ℕ) → i ≤ j → j < i + k → test j ≡ true → good j ≡ good (j + 1)) → Stepped good end i k
   moved-along test k h e d f =
       moved k h (omega arith) (along test (λ j. good i ≡ good j) i k (λ j a b t p. p ∙ f j a b t) e refl)
+
+  pub passed-none : i ≤ end → Passed good end i 0
+  passed-none h = record { inside = omega arith; same = rw add-zero }
+
+-- a step over bytes that were passed over
+pub passed-step : {good : ℕ → Bool} {end i w : ℕ} → Passed good end i w → (w ≡ 0 → ⊥) → Stepped good end i w
+passed-step {good} {end} {i} {w} p d = moved good end i w (p .inside) (omega arith) (p .same)
+
+-- what is so at o, and not k places on
+pub not-there : (test : ℕ → Bool) (o k : ℕ) (b : Bool) → test o ≡ true → b ≡ test (o + k) → not b ≡ true → 1 ≤ k
+not-there test o k b t e n =
+    below-or-not 0 k (λ h. omega arith)
+    (λ h. let z : o + k ≡ o = omega arith in failed (sym (not-true b n) ∙ (e ∙ rw z t)))
 
 -- what a scan keeps: the whole is good exactly where the rest from i is
 pub record Kept (whole : Bool) (good : ℕ → Bool) (end i : ℕ) : Type 0 where

@@ -26,6 +26,10 @@ pub both : (x y : Bool) → x && y ≡ true → (x ≡ true) × (y ≡ true)
 both true y e = (refl, e)
 both false y e = let z : _≡_ {A = Bool} true false = sym e in absurd (true≢false z)
 
+pub neither : (x y : Bool) → x || y ≡ false → (x ≡ false) × (y ≡ false)
+neither true y e = let z : _≡_ {A = Bool} true false = e in absurd (true≢false z)
+neither false y e = (refl, e)
+
 pub le-left : (m a b : ℕ) → leb m a && leb m b ≡ true → m ≤ a
 le-left m a b e = leb-true m a (both (leb m a) (leb m b) e .0)
 
@@ -50,6 +54,10 @@ and-assoc false b c = refl
 pub or-false : (b : Bool) → b || false ≡ b
 or-false true = refl
 or-false false = refl
+
+pub or-true : (b : Bool) → b || true ≡ true
+or-true true = refl
+or-true false = refl
 
 pub or-assoc : (a b c : Bool) → (a || b) || c ≡ a || (b || c)
 or-assoc true b c = refl

@@ -17,7 +17,7 @@ some-before : (v : ℕ) (x : Scalars) → isSome (before v x) ≡ isSome x
 some-before v (some vs) = refl
 some-before v none = refl
 
-over-scalar : (s : List ℕ) (i : ℕ) {v w : ℕ} → i < length s → scalarAt s i ≡ Scalar v w → utf8From s i ≡ utf8From s (i + w)
+pub over-scalar : (s : List ℕ) (i : ℕ) {v w : ℕ} → i < length s → scalarAt s i ≡ Scalar v w → utf8From s i ≡ utf8From s (i + w)
 over-scalar s i {v} {w} h e = ap isSome (decode-at s i h e) ∙ some-before v (decode (drop (i + w) s))
 
 -- a step over a run of ASCII

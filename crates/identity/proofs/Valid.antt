@@ -112,7 +112,7 @@ at-scalar s i {v} {w} h e =
     ∙ rest-before (eqb i 0) v (decode (drop (i + w) s))
     ∙ rw (left-at s (i + w) (ends-at s i h e), z, rest-is false (decode (drop (i + w) s)))
 
-over-scalar : (s : List ℕ) (i : ℕ) {v w : ℕ} → i < length s → scalarAt s i ≡ Scalar v w → refused v (eqb i 0 || eqb (i + w) (length s)) ≡ false → idFrom s i ≡ idFrom s (i + w)
+pub over-scalar : (s : List ℕ) (i : ℕ) {v w : ℕ} → i < length s → scalarAt s i ≡ Scalar v w → refused v (eqb i 0 || eqb (i + w) (length s)) ≡ false → idFrom s i ≡ idFrom s (i + w)
 over-scalar s i h e r = at-scalar s i h e ∙ rw r
 
 -- a step over a run of printable bytes, none of them at an edge

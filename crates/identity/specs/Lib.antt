@@ -6,3 +6,4 @@ pub mod Identity
 pub mod Order
 pub mod Text
 pub mod Scan
+pub mod Window

@@ -51,6 +51,11 @@ pub record Run (test : ℕ → Bool) (o k end : ℕ) : Type 0 where
   pub inside : o + k ≤ end
   pub all : every test o k ≡ true
 
+-- Over the w bytes from i, perhaps none: the rest from i is good exactly where the rest after them is.
+pub record Passed (good : ℕ → Bool) (end i w : ℕ) : Type 0 where
+  pub inside : i + w ≤ end
+  pub same : good i ≡ good (i + w)
+
 -- A step of w bytes from i: 0 where the rest from i is not good, else it is good exactly where the rest after the step is.
 pub record Stepped (good : ℕ → Bool) (end i w : ℕ) : Type 0 where
   pub inside : i + w ≤ end

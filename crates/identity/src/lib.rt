@@ -9,7 +9,8 @@ ghost use Rattle.identity.specs.Unicode.{control, whiteSpace};
 ghost use Rattle.identity.specs.Identity.{validId};
 ghost use Rattle.identity.specs.Order.{compared, sign, isGreater};
 ghost use Rattle.identity.specs.Text.{partAt, partPointer, namedText, placeInside, identityText, identityPointer};
-ghost use Rattle.identity.specs.Scan.{widthOf, ascii, printable, visible, every, asciiAt, printableAt, visibleAt, sameAt, Run, Stepped, utf8From, idFrom, Tied, Leading};
+ghost use Rattle.identity.specs.Scan.{widthOf, ascii, printable, visible, every, asciiAt, printableAt, visibleAt, sameAt, Run, Passed, Stepped, utf8From, idFrom, Tied, Leading};
+ghost use Rattle.identity.specs.Window.{due, lowAfter, second, starts, fits, fitsAt, quietAt};
 
 // The place of an identity: which lent text, where it starts, how long it is.
 pub struct IdentityPlace {
@@ -317,12 +318,125 @@ fn ascii_few(text: &[u8], at: usize) -> usize
     1
 }
 
+// Whether a following byte is due after p, q and r, the nearest of them first.
+fn due(p: u8, q: u8, r: u8) -> bool
+    ensures { λ z. ⌜ z ≡ due p q r ⌝ }
+{
+    (0xC0 <= p) | ((0xE0 <= q) | (0xF0 <= r))
+}
+
+// Whether b is lower than the bytes that follow the first byte a.
+fn low_after(a: u8, low: u8, p: u8, b: u8) -> bool
+    ensures { λ r. ⌜ r ≡ lowAfter a low p b ⌝ }
+{
+    (p == a) & (b < low)
+}
+
+// Whether some scalar that is no control has b after p.
+fn second(b: u8, p: u8) -> bool
+    ensures { λ r. ⌜ r ≡ second b p ⌝ }
+{
+    let low = low_after(0xC2, 0xA0, p, b) | low_after(0xE0, 0xA0, p, b);
+    follows(b) & (!low & (!low_after(0xF0, 0x90, p, b) & !((p == 0xF4) & (0x90 <= b))))
+}
+
+// Whether some scalar that is no control starts with b.
+fn starts(b: u8) -> bool
+    ensures { λ r. ⌜ r ≡ starts b ⌝ }
+{
+    printable(b) | ((0xC2 <= b) & (b <= 0xF4))
+}
+
+// Whether b fits the three bytes before it. No branch, so that 16 are tested at once.
+fn fits(b: u8, p: u8, q: u8, r: u8) -> bool
+    ensures { λ z. ⌜ z ≡ fits b p q r ⌝ }
+{
+    let due = due(p, q, r);
+    (due & second(b, p)) | (!due & starts(b))
+}
+
+// Whether each of the 16 bytes from `at` fits the three before it.
+fn fits_block(text: &[u8], at: usize) -> bool
+    requires { ⌜ 3 ≤ at ⌝ }
+    requires { ⌜ at + 16 ≤ length (now text) ⌝ }
+    ensures { λ r. ⌜ r ≡ every (fitsAt (now (text .entry))) at 16 ⌝ }
+{
+    let mut all = true;
+    let mut k = 0;
+    while k < 16 {
+        let i = at + k;
+        all = all & fits(text[i], text[i - 1], text[i - 2], text[i - 3]);
+        k += 1;
+    }
+    all
+}
+
+// How many bytes from `at` on fit the three before them, by blocks of 16, none of them the last.
+fn fits_blocks(text: &[u8], at: usize) -> usize
+    requires { ⌜ 3 ≤ at ⌝ }
+    requires { ⌜ at < length (now text) ⌝ }
+    ensures { λ r. ⌜ Run (fitsAt (now (text .entry))) at r (length (now (text .entry)) - 1) ⌝ }
+{
+    let rest = text.len() - at;
+    let mut k = 0;
+    while k + 16 < rest {
+        if !fits_block(text, at + k) {
+            return k;
+        }
+        k += 16;
+    }
+    k
+}
+
+// Whether no following byte is due at `at`.
+fn quiet(text: &[u8], at: usize) -> bool
+    requires { ⌜ 3 ≤ at ⌝ }
+    requires { ⌜ at ≤ length (now text) ⌝ }
+    ensures { λ r. ⌜ r ≡ quietAt (now (text .entry)) at ⌝ }
+{
+    !due(text[at - 1], text[at - 2], text[at - 3])
+}
+
+// The last of the k bytes from `at` that no scalar ends after are left off.
+fn whole_scalars(text: &[u8], at: usize, k: usize) -> usize
+    requires { ⌜ 3 ≤ at ⌝ }
+    requires { ⌜ at + k ≤ length (now text) ⌝ }
+    requires { ⌜ quietAt (now text) at ≡ true ⌝ }
+    ensures { λ r. ⌜ r ≤ k ⌝ }
+    ensures { λ r. ⌜ quietAt (now (text .entry)) (at + r) ≡ true ⌝ }
+{
+    let mut w = k;
+    while !quiet(text, at + w) {
+        w -= 1;
+    }
+    w
+}
+
+// How many bytes from `at` on are scalars inside the text and no controls, by blocks of 16; 0 where a block is not, or is not tested.
+fn inner_scalars(text: &[u8], at: usize) -> usize
+    requires { ⌜ at < length (now text) ⌝ }
+    ensures { λ r. ⌜ Passed (utf8From (now (text .entry))) (length (now (text .entry))) at r ⌝ }
+    ensures { λ r. ⌜ Passed (idFrom (now (text .entry))) (length (now (text .entry))) at r ⌝ }
+{
+    if at < 3 {
+        return 0;
+    }
+    if !quiet(text, at) {
+        return 0;
+    }
+    whole_scalars(text, at, fits_blocks(text, at))
+}
+
 // How many bytes from `at` on are whole scalars: blocks of ASCII, a few bytes of it, or one scalar; 0 where there is none.
 fn utf8_step(text: &[u8], at: usize) -> usize
     requires { ⌜ at < length (now text) ⌝ }
     ensures { λ r. ⌜ Stepped (utf8From (now (text .entry))) (length (now (text .entry))) at r ⌝ }
 {
     if !ascii(text[at]) {
+        let many = inner_scalars(text, at);
+        if many != 0 {
+            return many;
+        }
         return scalar_width(text, at);
     }
     let blocks = ascii_blocks(text, at);
@@ -458,6 +572,10 @@ fn id_step(text: &[u8], at: usize) -> usize
     ensures { λ r. ⌜ Stepped (idFrom (now (text .entry))) (length (now (text .entry))) at r ⌝ }
 {
     if !visible(text[at]) {
+        let many = inner_scalars(text, at);
+        if many != 0 {
+            return many;
+        }
         return id_scalar(text, at);
     }
     let blocks = inner_blocks(text, at);

@@ -1,6 +1,7 @@
 -- `identity::id_step` meets its contract. Each answer is a law of proofs/Valid.antt. Assumes nothing.
 use borrow.Author.Needs.{needs}
 use Rattle.identity.proofs.Tests.{tested}
+use Rattle.identity.proofs.Steps.{passed-step}
 use Rattle.identity.proofs.Valid.{id-laws}
 use Rattle.identity.proofs.id_step.Statement.{statement}
 use Rattle.identity.proofs.id_step.Tie as tie
@@ -11,6 +12,8 @@ id-step-spec =
     (tie.spec
     (λ c. search needs)
     (λ c κs. search needs)
+    (λ c κs. search needs)
+    (λ c. search passed-step)
     (λ c κs. search needs)
     (λ c. search needs)
     (λ c κs. search needs)
