@@ -1,7 +1,7 @@
 // What a check answers: passed, or a refusal with the numbers that it carries.
 ghost use mathlib.Core.Path.{_≡_};
 ghost use mathlib.Core.List.{[], _∷_};
-ghost use lib.ListN.{take};
+ghost use lib.ListN.{length};
 ghost use Rattle.answers.specs.Numbers.{bit, placed, numbers};
 ghost use Rattle.answers.specs.Listed.{listed};
 
@@ -187,9 +187,9 @@ fn boundary_of(number: u64, id: IdentityPlace, value: u8) -> NumberList
     listed(5, number, bit(id.house), start, len, value as u64, 0, 0)
 }
 
-// Document 01's number of a refusal and the values after it.
+// Document 01's number of a refusal and the values after it; zeros after those.
 pub fn numbers(refusal: Refusal) -> NumberList
-    ensures { λ r. ⌜ take (r .len) (r .values) ≡ numbers refusal ⌝ }
+    ensures { λ r. ⌜ r ≡ listed (length (numbers refusal)) (numbers refusal) ⌝ }
 {
     match refusal {
         Refusal::Length => listed(1, 1, 0, 0, 0, 0, 0, 0),

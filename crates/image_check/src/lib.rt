@@ -1,39 +1,13 @@
 // Both checks for a host in another language: the answer as document 01's numbers, in eight numbers that the host lends.
 ghost use mathlib.Core.Path.{_≡_};
-ghost use Prim.Native.Nat.{_≤_};
-ghost use lib.ListN.{take};
-ghost use Rattle.answers.specs.Numbers.{numbers};
 ghost use Rattle.enclave.specs.Answer.{answerNumbers, enclaveAnswer};
 ghost use Rattle.federate.specs.Answer.{federateNumbers, federateAnswer};
-ghost use Rattle.image_check.specs.Answered.{filled, Answered};
+ghost use Rattle.image_check.specs.Answered.{Answered};
 use answers::NumberList;
-use answers::Refusal;
 use enclave::EnclaveAnswer;
 use enclave::check::check_enclave;
 use federate::FederateAnswer;
 use federate::check::check_federate;
-
-// The list with zeros after its numbers.
-fn cleared(list: NumberList) -> NumberList
-    requires { ⌜ list .len ≤ 8 ⌝ }
-    ensures { λ r. ⌜ (r .len ≡ list .len) × (r .values ≡ filled (take (list .len) (list .values))) ⌝ }
-{
-    let len = list.len;
-    let from = list.values;
-    let mut values = [0u64; 8];
-    let mut i = 0;
-    while i < len {
-        values[i] = from[i];
-        i += 1;
-    }
-    NumberList { len, values }
-}
-
-fn refusal_numbers(refusal: Refusal) -> NumberList
-    ensures { λ r. ⌜ Answered (numbers refusal) (r .len) (r .values) ⌝ }
-{
-    cleared(answers::numbers(refusal))
-}
 
 // 0 and the links, or the refusal's numbers.
 fn enclave_numbers(answer: EnclaveAnswer) -> NumberList
@@ -44,7 +18,7 @@ fn enclave_numbers(answer: EnclaveAnswer) -> NumberList
             len: 2,
             values: [0, links, 0, 0, 0, 0, 0, 0],
         },
-        EnclaveAnswer::Refused(r) => refusal_numbers(r),
+        EnclaveAnswer::Refused(r) => answers::numbers(r),
     }
 }
 
@@ -57,7 +31,7 @@ fn federate_numbers(answer: FederateAnswer) -> NumberList
             len: 3,
             values: [0, enclaves as u64, links, 0, 0, 0, 0, 0],
         },
-        FederateAnswer::Refused(r) => refusal_numbers(r),
+        FederateAnswer::Refused(r) => answers::numbers(r),
     }
 }
 
