@@ -1,20 +1,19 @@
 -- Runs of clean records of one table. Assumes nothing.
-use Prim.Native.Nat.{ℕ, zero, suc, _+_, _*_, _<_, _≤_}
+use Prim.Native.Nat.{ℕ, _+_, _*_, _<_, _≤_}
 use mathlib.Core.Bool.{true, false, _&&_, and-true, or-true}
-use mathlib.Core.Path.{_≡_, refl, _∙_, ap, sym}
+use mathlib.Core.Path.{_≡_, _∙_, ap, sym}
 use mathlib.Core.List.{List}
 use native.Mathlib.Omega.{arith}
 use lib.Dec.{leb, eqb}
 use lib.ListN.{getD}
-use borrow.Author.Tests.{leb-true, eqb-true, lt-leb, ne-eqb}
+use borrow.Author.Tests.{leb-true, eqb-true, ne-eqb}
 use Rattle.schema.specs.Layout.{Layout, layouts}
 use Rattle.schema.specs.Rows.{byteOf}
 use Rattle.packing.specs.declared.shape.Shape.{Shape}
-use Rattle.packing.specs.Shape.{layoutOf, used, governedBytes, shapeOf}
+use Rattle.packing.specs.Shape.{layoutOf, governedBytes, shape, shapeOf}
 use Rattle.packing.specs.Clean.{zeros, cleanBy, clean}
-use Rattle.packing.specs.Runs.{PlainTable, plainFrom, CleanRun}
+use Rattle.packing.specs.Runs.{PlainShape, plainFrom, CleanRun}
 use Rattle.packing.proofs.Tests.{both, and-next}
-use Rattle.packing.proofs.Tables.{none-governed, other-table}
 use Rattle.packing.proofs.Records.{table-at}
 
 -- none
@@ -54,32 +53,27 @@ module _ {p : List ℕ} {t n r : ℕ} (s : CleanRun p t n r r) where
   pub clean-stray : {limit : ℕ} → r ≤ limit → clean p r ≡ false → CleanRun p t n limit r
   clean-stray {limit} l h = last limit l (λ g e. h)
 
--- a plain table, by the test of its shape
-pub plain-table : {s : Shape} (t : ℕ) → s ≡ shapeOf t → ((eqb (s .bits) 0 && eqb (s .kinds) 0) && leb (s .used) 32) ≡ true → PlainTable t (s .used)
-plain-table {s} t e h =
-    let a = both (eqb (s .bits) 0 && eqb (s .kinds) 0) (leb (s .used) 32) h in
-    let b = both (eqb (s .bits) 0) (eqb (s .kinds) 0) (a .0) in
-    record {
-      bits = sym (ap (λ (x : Shape). x .bits) e) ∙ eqb-true _ _ (b .0);
-      kinds = sym (ap (λ (x : Shape). x .kinds) e) ∙ eqb-true _ _ (b .1);
-      ends = ap (λ (x : Shape). x .used) e;
-      half = leb-true _ _ (a .1);
-    }
+-- a plain shape, by the test of it
+pub plain-shape : {s : Shape} → (eqb (s .«bit_0» .len) 0 && eqb (s .«bit_1» .len) 0) && leb (s .used) 32 ≡ true → PlainShape s
+plain-shape {s} h =
+    let a = both (eqb (s .«bit_0» .len) 0 && eqb (s .«bit_1» .len) 0) (leb (s .used) 32) h in
+    let b = both (eqb (s .«bit_0» .len) 0) (eqb (s .«bit_1» .len) 0) (a .0) in
+    record { none-0 = eqb-true _ _ (b .0); none-1 = eqb-true _ _ (b .1); half = leb-true _ _ (a .1) }
 
--- a record of a plain table
-leb-zero : (x : ℕ) → leb x 0 ≡ eqb x 0
-leb-zero zero = refl
-leb-zero (suc x) = lt-leb (suc x) 0 (omega arith) ∙ sym (ne-eqb (suc x) 0 (λ e. omega arith))
+-- tables 3 and 5 have governed fields
+other-table : (k t j : ℕ) → governedBytes k (layoutOf t .fields) ≡ 0 → (governedBytes k (layoutOf j .fields) ≡ 0 → ⊥) → eqb t j ≡ false
+other-table k t j e n = ne-eqb t j (λ h. n (rw (← h) e))
 
-plain-by : (l : Layout) (p : List ℕ) (n u : ℕ) → l .bits ≡ 0 → l .kinds ≡ 0 → u ≡ used l → governedBytes 0 (l .fields) ≡ 0 → governedBytes 1 (l .fields) ≡ 0 → cleanBy l p n ≡ plainFrom p (n * 64) u
+-- a record of a table whose shape is plain
+plain-by : (l : Layout) (p : List ℕ) (n : ℕ) → governedBytes 0 (l .fields) ≡ 0 → governedBytes 1 (l .fields) ≡ 0 → cleanBy l p n ≡ plainFrom (shape l) p (n * 64)
 unfolding zeros
-plain-by l p n u b k e g h = simp (b, k, ← e, g, h, leb-zero, or-true, and-true)
+plain-by l p n g h = simp (g, h, or-true, and-true)
 
-pub plain-clean : (p : List ℕ) {t u : ℕ} (n : ℕ) → PlainTable t u → getD p (n * 64) 0 ≡ t → plainFrom p (n * 64) u ≡ clean p n
+pub plain-clean : (p : List ℕ) {s : Shape} (t n : ℕ) → s ≡ shapeOf t → PlainShape s → getD p (n * 64) 0 ≡ t → plainFrom s p (n * 64) ≡ clean p n
 unfolding layouts clean
-plain-clean p {t} {u} n f e =
-    let b = f .bits in
-    let g = none-governed t b in
-    let x : eqb t 3 ≡ false = other-table t 3 b (λ z. omega arith) in
-    let y : eqb t 5 ≡ false = other-table t 5 b (λ z. omega arith) in
-    rw (table-at p n, e, x, y) (sym (and-true _ ∙ plain-by (layoutOf t) p n u b (f .kinds) (f .ends) (g .0) (g .1)))
+plain-clean p {s} t n i f e =
+    let g : governedBytes 0 (layoutOf t .fields) ≡ 0 = sym (ap (λ (x : Shape). x .«bit_0» .len) i) ∙ f .none-0 in
+    let h : governedBytes 1 (layoutOf t .fields) ≡ 0 = sym (ap (λ (x : Shape). x .«bit_1» .len) i) ∙ f .none-1 in
+    let x : eqb t 3 ≡ false = other-table 0 t 3 g (λ z. omega arith) in
+    let y : eqb t 5 ≡ false = other-table 1 t 5 h (λ z. omega arith) in
+    rw (table-at p n, e, x, y, i) (sym (and-true _ ∙ plain-by (layoutOf t) p n g h))

@@ -1,19 +1,19 @@
 -- What holds of every table's layout, by computing over the list of layouts. Assumes nothing.
 use Prim.Native.Nat.{ℕ, zero, suc, _+_, _*_, _%_, _<_, _≤_}
-use mathlib.Core.Bool.{Bool, true, false, not, _&&_, _||_}
+use mathlib.Core.Bool.{Bool, true, _&&_}
 use mathlib.Core.Path.{_≡_, refl}
 use mathlib.Core.List.{List, [], _∷_}
 use native.Mathlib.Omega.{arith}
 use lib.Dec.{ltb, leb, eqb}
 use lib.ListN.{getD, length, List·getD-eq-default}
-use borrow.Author.Tests.{ltb-true, ltb-false, leb-true, eqb-true, eq-eqb, ne-eqb}
+use borrow.Author.Tests.{ltb-true, ltb-false, leb-true, eqb-true}
 use Rattle.identity.specs.declared.IdentityPlace.{IdentityPlace}
 use Rattle.schema.specs.Number.{number}
 use Rattle.schema.specs.Layout.{Layout, plain, layouts, bytes, offset, fieldAt}
 use Rattle.schema.specs.Rows.{byteOf, bitOf}
 use Rattle.packing.proofs.Tests.{cases, both}
 use Rattle.packing.specs.declared.shape.Governed.{Governed}
-use Rattle.packing.specs.Shape.{layoutOf, used, governedBytes, governed}
+use Rattle.packing.specs.Shape.{layoutOf, used, governed}
 use Rattle.packing.specs.Packing.{packFits, identityAt}
 
 -- k is none of the n numbers from 0 on: what the last arm of a match over them knows
@@ -131,18 +131,3 @@ pub pack-length : (p : List ℕ) → packFits p ≡ true → length p ≤ 419430
 pack-length p e =
     let s = both (ltb 0 (length p)) (leb (length p) 4194304 && eqb (length p % 64) 0) e .1 in
     leb-true (length p) 4194304 (both (leb (length p) 4194304) (eqb (length p % 64) 0) s .0)
-
--- a layout without bits governs no field
-ungoverned : Layout → Bool
-ungoverned l = not (eqb (l .bits) 0) || (eqb (governedBytes 0 (l .fields)) 0 && eqb (governedBytes 1 (l .fields)) 0)
-
-pub none-governed : (t : ℕ) → layoutOf t .bits ≡ 0 → (governedBytes 0 (layoutOf t .fields) ≡ 0) × (governedBytes 1 (layoutOf t .fields) ≡ 0)
-unfolding layouts every ungoverned
-none-governed t e =
-    let u = every-at ungoverned layouts (plain []) t refl refl in
-    let a = both _ _ (rw (eq-eqb _ _ e) at u) in
-    (eqb-true _ _ (a .0), eqb-true _ _ (a .1))
-
--- tables 3 and 5 have bits
-pub other-table : (t k : ℕ) → layoutOf t .bits ≡ 0 → (layoutOf k .bits ≡ 0 → ⊥) → eqb t k ≡ false
-other-table t k e n = ne-eqb t k (λ h. n (rw (← h) e))

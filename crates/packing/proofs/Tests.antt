@@ -31,15 +31,3 @@ refused {r} e n = sym e ∙ not-true r n
 
 pub held : {r b : Bool} → r ≡ b → not r ≡ false → b ≡ true
 held {r} e n = sym e ∙ not-false r n
-
--- one of three tests fails, or none
-not-all : (a b d : Bool) → not a || (not b || not d) ≡ not (a && (b && d))
-not-all true true d = refl
-not-all true false d = refl
-not-all false b d = refl
-
-pub some-fails : (a b d : Bool) → not a || (not b || not d) ≡ true → a && (b && d) ≡ false
-some-fails a b d h = not-true (a && (b && d)) (sym (not-all a b d) ∙ h)
-
-pub none-fails : (a b d : Bool) → not a || (not b || not d) ≡ false → a && (b && d) ≡ true
-none-fails a b d h = not-false (a && (b && d)) (sym (not-all a b d) ∙ h)

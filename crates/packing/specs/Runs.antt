@@ -3,11 +3,12 @@ use Prim.Native.Nat.{ℕ, zero, suc, _+_, _-_, _/_, _<_, _≤_}
 use mathlib.Core.Bool.{Bool, true, false, _&&_}
 use mathlib.Core.Path.{_≡_}
 use mathlib.Core.List.{List}
-use lib.Dec.{ltb, eqb}
+use lib.Dec.{ltb, leb, eqb}
 use lib.ListN.{getD, length, set}
 use Rattle.answers.specs.Checks.{Check, run}
 use Rattle.schema.specs.Rows.{byteOf}
-use Rattle.packing.specs.Shape.{layoutOf, used}
+use Rattle.packing.specs.declared.shape.Shape.{Shape}
+use Rattle.packing.specs.Shape.{layoutOf}
 use Rattle.packing.specs.Clean.{zeros, clean}
 use Rattle.packing.specs.Packing.{identityChecks}
 use Rattle.packing.specs.Starts.{recordsOf, reaches}
@@ -43,17 +44,16 @@ pub record FixedAt (k last t : ℕ) (s : List ℕ) (r : ℕ) (w : List ℕ) : Ty
   pub these : (j : ℕ) → t ≤ j → j < r → j ≤ last
   pub is : w ≡ startsAt k t (r - t) s
 
--- a table without bits and kinds, whose fields end at byte u, in the first half of the record
-pub record PlainTable (t u : ℕ) : Type 0 where
-  pub bits : layoutOf t .bits ≡ 0
-  pub kinds : layoutOf t .kinds ≡ 0
-  pub ends : u ≡ used (layoutOf t)
-  pub half : u ≤ 32
+-- a shape that governs no field, whose fields end in the first half of the record
+pub record PlainShape (s : Shape) : Type 0 where
+  pub none-0 : s .«bit_0» .len ≡ 0
+  pub none-1 : s .«bit_1» .len ≡ 0
+  pub half : s .used ≤ 32
 
--- of the record that starts at s, bytes 1 to 3 are zero and those from u on
-abbrev pub plainFrom : List ℕ → ℕ → ℕ → Bool
-plainFrom p s u =
-    (eqb (getD p (s + 1) 0) 0 && (eqb (getD p (s + 2) 0) 0 && eqb (getD p (s + 3) 0) 0)) && zeros p (s + u) (64 - u)
+-- of the record that starts at o, bytes 1 to 3 are as shape s has them, and those after its fields are zero
+abbrev pub plainFrom : Shape → List ℕ → ℕ → Bool
+plainFrom s p o =
+    (leb (getD p (o + 1) 0) (s .bits) && (leb (getD p (o + 2) 0) (s .kinds) && eqb (getD p (o + 3) 0) 0)) && zeros p (o + s .used) (64 - s .used)
 
 -- the records from n up to r are of table t and clean, and below the limit r is not one more
 pub record CleanRun (p : List ℕ) (t n limit r : ℕ) : Type 0 where

@@ -7,7 +7,7 @@ ghost use lib.Dec.{ltb, leb, eqb};
 ghost use Rattle.schema.specs.Rows.{byteOf};
 ghost use Rattle.packing.specs.Shape.{shapeOf};
 ghost use Rattle.packing.specs.Clean.{zeros, clean};
-ghost use Rattle.packing.specs.Runs.{PlainTable, CleanRun, plainFrom};
+ghost use Rattle.packing.specs.Runs.{PlainShape, CleanRun, plainFrom};
 use crate::shape::Governed;
 use crate::shape::Shape;
 use schema::number::long_inside;
@@ -134,20 +134,20 @@ pub fn clean(p: &[u8], n: usize, table: u8, shape: Shape) -> bool
     (head & (tail & (absent_0 & absent_1))) & kind_clean(table, p, start, bit_1, kind)
 }
 
-// Whether the record at `start` is clean, by a layout without bits and kinds that uses at most half of it.
-fn is_plain(p: &[u8], start: usize, used: u8) -> bool
-    requires { ⌜ (start + 64 ≤ length (now p)) × (used ≤ 32) ⌝ }
-    ensures { λ r. ⌜ r ≡ plainFrom (now (p .entry)) start used ⌝ }
+// Whether the record at `start` is clean, by a shape that governs no field and uses at most half of it.
+fn is_plain(p: &[u8], start: usize, shape: Shape) -> bool
+    requires { ⌜ (start + 64 ≤ length (now p)) × (shape .used ≤ 32) ⌝ }
+    ensures { λ r. ⌜ r ≡ plainFrom shape (now (p .entry)) start ⌝ }
 {
-    if (p[start + 1] != 0) | ((p[start + 2] != 0) | (p[start + 3] != 0)) {
+    if !head_clean(shape, p[start + 1], p[start + 2], p[start + 3]) {
         return false;
     }
-    zeros_32(p, start + wide(used)) & zeros_32(p, start + 32)
+    zeros_32(p, start + wide(shape.used)) & zeros_32(p, start + 32)
 }
 
-// The first record from n on that is not of `table` or not clean, or the limit: of a table without bits and kinds, and of any.
-fn past_plain(p: &[u8], n: usize, table: u8, used: u8, limit: usize) -> usize
-    requires { ⌜ (n ≤ limit) × ((limit ≤ length (now p) / 64) × PlainTable table used) ⌝ }
+// The first record from n on that is not of `table` or not clean, or the limit: by a shape that governs no field, and by any.
+fn past_plain(p: &[u8], n: usize, table: u8, shape: Shape, limit: usize) -> usize
+    requires { ⌜ (n ≤ limit) × ((limit ≤ length (now p) / 64) × ((shape ≡ shapeOf table) × PlainShape shape)) ⌝ }
     ensures { λ r. ⌜ CleanRun (now (p .entry)) table n limit r ⌝ }
 {
     let mut next = n;
@@ -155,7 +155,7 @@ fn past_plain(p: &[u8], n: usize, table: u8, used: u8, limit: usize) -> usize
         if p[next * 64] != table {
             return next;
         }
-        if !is_plain(p, next * 64, used) {
+        if !is_plain(p, next * 64, shape) {
             return next;
         }
         next += 1;
@@ -185,8 +185,8 @@ pub fn past_clean(p: &[u8], n: usize, table: u8, shape: Shape, limit: usize) -> 
     requires { ⌜ (n ≤ limit) × ((limit ≤ length (now p) / 64) × (shape ≡ shapeOf table)) ⌝ }
     ensures { λ r. ⌜ CleanRun (now (p .entry)) table n limit r ⌝ }
 {
-    if ((shape.bits == 0) & (shape.kinds == 0)) & (shape.used <= 32) {
-        return past_plain(p, n, table, shape.used, limit);
+    if ((shape.bit_0.len == 0) & (shape.bit_1.len == 0)) & (shape.used <= 32) {
+        return past_plain(p, n, table, shape, limit);
     }
     past_other(p, n, table, shape, limit)
 }

@@ -12,17 +12,17 @@ use Rattle.packing.proofs.clean.past_plain.Statement.{statement}
 use Rattle.packing.proofs.clean.past_plain.Tie as tie
 
 abbrev Inv-loop : tie.InvT-loop
-Inv-loop p n table used limit next₀ next = (next ≤ limit) × CleanRun p table n next next
+Inv-loop p n table shape limit next₀ next = (next ≤ limit) × CleanRun p table n next next
 
 abbrev μ-loop : tie.MeasureT-loop
-μ-loop p n table used limit next₀ next = limit - next
+μ-loop p n table shape limit next₀ next = limit - next
 
 -- record `next` is of the table, so the test tells whether it is clean
 tells : (c : tie.After-is-plain Inv-loop μ-loop) → c .is-plain .result ≡ clean (now (c .before .before .before .before .before .before .args .p)) (c .before .before .before .before .loop .next)
 tells c =
     let s = c .before .before .before .before .before .before in
     let e : getD (now (s .args .p)) (c .before .before .before .before .loop .next * 64) 0 ≡ s .args .table = search needs in
-    c .is-plain .ensures ∙ plain-clean (now (s .args .p)) _ (s .pre .1 .1) e
+    c .is-plain .ensures ∙ plain-clean (now (s .args .p)) _ _ (s .pre .1 .1 .0) (s .pre .1 .1 .1) e
 
 pub past-plain-spec : {M : Type 1} → statement M
 past-plain-spec =
