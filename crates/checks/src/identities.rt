@@ -19,7 +19,7 @@ pub fn validate_id<'a>(
 ) -> Outcome
     ensures { λ r. ⌜ Decides (idCheck (identityText (now (batch .entry)) (now (house .entry))) kind index id ∷ []) r ⌝ }
 {
-    if identity::valid_id(identity::identity_text(batch, house, id)) {
+    if identity::scan::valid_id(identity::place::identity_text(batch, house, id)) {
         return Outcome::Passed;
     }
     Outcome::Refused(Refusal::InvalidStableId { kind, index, id })
@@ -36,7 +36,7 @@ pub fn validate_id_order<'a>(
 ) -> Outcome
     ensures { λ r. ⌜ Decides (idOrderChecks (identityText (now (batch .entry)) (now (house .entry))) kind index id before) r ⌝ }
 {
-    let order = identity::compare_places(batch, house, id, before);
+    let order = identity::compare::compare_places(batch, house, id, before);
     match order {
         ByteOrder::Less => Outcome::Refused(Refusal::StableIdsNotSorted { kind, index, id }),
         ByteOrder::Equal => Outcome::Refused(Refusal::DuplicateStableId { kind, index, id }),

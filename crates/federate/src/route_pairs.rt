@@ -65,7 +65,7 @@ fn half_at<'a>(
         return false;
     }
     let candidate = read::route_at(pack, k as usize);
-    let order = identity::compare_places(batch, house, candidate.boundary, route.boundary);
+    let order = identity::compare::compare_places(batch, house, candidate.boundary, route.boundary);
     match order {
         ByteOrder::Less => false,
         ByteOrder::Equal => is_half(half, route, candidate),

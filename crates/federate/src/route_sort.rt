@@ -14,7 +14,7 @@ pub fn order_of<'a>(pack: &'a [u8], batch: &'a [u8], house: &'a [u8], a: u32, b:
 {
     let one = parts::route_boundary_at(pack, a as usize);
     let other = parts::route_boundary_at(pack, b as usize);
-    identity::compare_places(batch, house, one, other)
+    identity::compare::compare_places(batch, house, one, other)
 }
 
 // Whether a comes before b, or is it: by its boundary, then by its number.

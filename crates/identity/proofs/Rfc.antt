@@ -8,8 +8,8 @@ use native.Mathlib.Omega.{arith}
 use lib.Dec.{ltb}
 use lib.ListN.{length, getD, drop, length-drop}
 use borrow.Author.Tests.{ltb-true, ltb-false, leb-true, lt-ltb, le-ltb, le-leb}
-use Rattle.identity.specs.declared.Decoded.{Decoded}
-use Rattle.identity.specs.declared.Decoded.the-variants.{Scalar, Malformed}
+use Rattle.identity.specs.declared.decode.Decoded.{Decoded}
+use Rattle.identity.specs.declared.decode.Decoded.the-variants.{Scalar, Malformed}
 use Rattle.identity.specs.Utf8.{allowed, allAllowed, encode, encodeAll, follows, checked, valueOfTwo, valueOfThree, valueOfFour, scalarAt}
 use Rattle.identity.specs.Utf8.{Scalars, some, none, before, decode, decodeAfter, isSome}
 use Rattle.identity.specs.Rfc3629.{Encodes, Utf8IsEncoding, DecodeInvertsEncode}

@@ -13,8 +13,8 @@ use mir.Facts.{fits-le}
 use lib.ListN.{length, getD, drop, drop-of-length-le, List·getD-eq-default}
 use lib.Seq.{drop-cons, drop-drop, getD-drop}
 use Rattle.identity.specs.Within.{within}
-use Rattle.identity.specs.declared.Decoded.{Decoded}
-use Rattle.identity.specs.declared.Decoded.the-variants.{Scalar, Malformed}
+use Rattle.identity.specs.declared.decode.Decoded.{Decoded}
+use Rattle.identity.specs.declared.decode.Decoded.the-variants.{Scalar, Malformed}
 use Rattle.identity.specs.Utf8.{allowed, follows, checked, valueOfTwo, valueOfThree, valueOfFour, twoBytes, threeBytes, fourBytes, scalarOf, scalarAt}
 use Rattle.identity.specs.Scan.{widthOf}
 use Rattle.identity.specs.Utf8.{some, none, before, inFront, decodeAfter, decode}

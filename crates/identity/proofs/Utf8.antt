@@ -6,8 +6,8 @@ use mathlib.Core.List.{List}
 use native.Mathlib.Omega.{arith}
 use lib.ListN.{length, getD, drop}
 use borrow.Author.Tests.{ltb-true}
-use Rattle.identity.specs.declared.Decoded.{Decoded}
-use Rattle.identity.specs.declared.Decoded.the-variants.{Scalar, Malformed}
+use Rattle.identity.specs.declared.decode.Decoded.{Decoded}
+use Rattle.identity.specs.declared.decode.Decoded.the-variants.{Scalar, Malformed}
 use Rattle.identity.specs.Utf8.{Scalars, some, none, before, isSome, decode, utf8, scalarAt}
 use Rattle.identity.specs.Scan.{widthOf, asciiAt, Run, Stepped, utf8From}
 use Rattle.identity.proofs.Steps.{stopped, moved, moved-along, Kept, kept-on}

@@ -7,8 +7,8 @@ use native.Mathlib.Omega.{arith}
 use lib.Dec.{eqb}
 use lib.ListN.{length, drop, getD}
 use borrow.Author.Tests.{eqb-true, eqb-false, ne-eqb}
-use Rattle.identity.specs.declared.Decoded.{Decoded}
-use Rattle.identity.specs.declared.Decoded.the-variants.{Scalar, Malformed}
+use Rattle.identity.specs.declared.decode.Decoded.{Decoded}
+use Rattle.identity.specs.declared.decode.Decoded.the-variants.{Scalar, Malformed}
 use Rattle.identity.specs.Utf8.{Scalars, some, none, before, decode, isSome, utf8, scalarAt}
 use Rattle.identity.specs.Unicode.{control, whiteSpace}
 use Rattle.identity.specs.Identity.{noControl, last, validScalars, validText, validId}

@@ -7,7 +7,7 @@ use native.Mathlib.Omega.{arith}
 use lib.Dec.{eqb, leb}
 use lib.ListN.{length, getD}
 use borrow.Author.Tests.{ltb-false, leb-true, leb-false, le-leb, lt-leb, eq-eqb, ne-eqb, not-true}
-use Rattle.identity.specs.declared.Decoded.the-variants.{Scalar}
+use Rattle.identity.specs.declared.decode.Decoded.the-variants.{Scalar}
 use Rattle.identity.specs.Utf8.{allowed, follows, valueOfTwo, valueOfThree, valueOfFour, scalarAt}
 use Rattle.identity.specs.Unicode.{control}
 use Rattle.identity.specs.Scan.{printable, Run, Passed, utf8From, idFrom}

@@ -6,8 +6,8 @@ use mathlib.Core.List.{List}
 use lib.Dec.{ltb, eqb}
 use lib.ListN.{length, getD, drop}
 use Rattle.identity.specs.Within.{within}
-use Rattle.identity.specs.declared.Decoded.{Decoded}
-use Rattle.identity.specs.declared.Decoded.the-variants.{Scalar, Malformed}
+use Rattle.identity.specs.declared.decode.Decoded.{Decoded}
+use Rattle.identity.specs.declared.decode.Decoded.the-variants.{Scalar, Malformed}
 use Rattle.identity.specs.Utf8.{before, decode, utf8}
 use Rattle.identity.specs.Identity.{validText}
 use Rattle.identity.specs.Order.{compared}

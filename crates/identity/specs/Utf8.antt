@@ -5,8 +5,8 @@ use mathlib.Core.List.{List, [], _∷_, _++_}
 use lib.Dec.{ltb, leb}
 use lib.ListN.{getD}
 use Rattle.identity.specs.Within.{within}
-use Rattle.identity.specs.declared.Decoded.{Decoded}
-use Rattle.identity.specs.declared.Decoded.the-variants.{Scalar, Malformed}
+use Rattle.identity.specs.declared.decode.Decoded.{Decoded}
+use Rattle.identity.specs.declared.decode.Decoded.the-variants.{Scalar, Malformed}
 
 -- The scalars that a text may have. RFC 3629 also excludes D800 to DFFF; document 01's condensed rule does not.
 unfoldable pub allowed : ℕ → Bool

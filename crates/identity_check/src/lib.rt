@@ -8,7 +8,7 @@ ghost use Rattle.identity.specs.Identity.{validId};
 pub extern "C" fn is_utf8_text(text: &[u8]) -> bool
     ensures { λ r. ⌜ r ≡ utf8 (now (text .entry)) ⌝ }
 {
-    identity::is_utf8(text)
+    identity::scan::is_utf8(text)
 }
 
 // Whether a text is a valid identity.
@@ -16,5 +16,5 @@ pub extern "C" fn is_utf8_text(text: &[u8]) -> bool
 pub extern "C" fn valid_id_text(text: &[u8]) -> bool
     ensures { λ r. ⌜ r ≡ validId (now (text .entry)) ⌝ }
 {
-    identity::valid_id(text)
+    identity::scan::valid_id(text)
 }

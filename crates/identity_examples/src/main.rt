@@ -39,12 +39,12 @@ fn write_hex(text: &[u8]) {
 // A text, whether it is UTF-8, and whether it is a valid identity.
 fn show(text: &[u8]) {
     write_hex(text);
-    if identity::is_utf8(text) {
+    if identity::scan::is_utf8(text) {
         write(b" utf-8");
     } else {
         write(b" malformed");
     }
-    if identity::valid_id(text) {
+    if identity::scan::valid_id(text) {
         write(b" valid\n");
     } else {
         write(b" invalid\n");
@@ -109,19 +109,19 @@ fn show_place(name: &[u8]) {
     let house = b"abc\xFFz";
     let place = place(byte_at(name, 0), byte_at(name, 1), byte_at(name, 2));
     write(name);
-    if identity::place_inside(batch, house, place) {
+    if identity::place::place_inside(batch, house, place) {
         write(b" inside ");
     } else {
         write(b" outside ");
     }
-    write_hex(identity::identity_text(batch, house, place));
+    write_hex(identity::place::identity_text(batch, house, place));
     write(b"\n");
 }
 
 fn order(names: &[u8]) -> i8 {
     let left = place(byte_at(names, 0), byte_at(names, 1), byte_at(names, 2));
     let right = place(byte_at(names, 4), byte_at(names, 5), byte_at(names, 6));
-    identity::compare_utf8(b"abcabd", b"abc\xFFz", left, right)
+    identity::compare::compare_utf8(b"abcabd", b"abc\xFFz", left, right)
 }
 
 // Two places and the order of their texts.

@@ -63,7 +63,7 @@ fn check_route_order<'a>(
     ensures { λ r. ⌜ Decides (routeOrderChecks (identityText (now (batch .entry)) (now (house .entry))) i (route .boundary) (route .direction) (before .boundary) (before .direction)) r ⌝ }
 {
     let id = route.boundary;
-    let order = identity::compare_places(batch, house, id, before.boundary);
+    let order = identity::compare::compare_places(batch, house, id, before.boundary);
     match order {
         ByteOrder::Less => Outcome::Refused(Refusal::StableIdsNotSorted {
             kind: kind::BOUNDARY,
@@ -131,7 +131,7 @@ fn route_passes<'a>(
 {
     let n = refs::row_number(s, RouteImage::TABLE, i);
     let id = parts::route_boundary_at(p, n);
-    if !identity::valid_id(identity::identity_text(batch, house, id)) {
+    if !identity::scan::valid_id(identity::place::identity_text(batch, house, id)) {
         return false;
     }
     let port = parts::route_port_at(p, n);
@@ -143,7 +143,7 @@ fn route_passes<'a>(
     }
     let m = refs::row_number(s, RouteImage::TABLE, i - 1);
     let before = parts::route_boundary_at(p, m);
-    identity::above(batch, house, id, before)
+    identity::compare::above(batch, house, id, before)
 }
 
 // Every route.
@@ -206,7 +206,7 @@ fn binding_passes<'a>(
 {
     let n = refs::row_number(s, RequiredBindingImage::TABLE, i);
     let id = parts::binding_id_at(p, n);
-    if !identity::valid_id(identity::identity_text(batch, house, id)) {
+    if !identity::scan::valid_id(identity::place::identity_text(batch, house, id)) {
         return false;
     }
     if i == 0 {
@@ -214,7 +214,7 @@ fn binding_passes<'a>(
     }
     let m = refs::row_number(s, RequiredBindingImage::TABLE, i - 1);
     let before = parts::binding_id_at(p, m);
-    identity::above(batch, house, id, before)
+    identity::compare::above(batch, house, id, before)
 }
 
 // Every required binding.

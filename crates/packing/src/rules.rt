@@ -110,10 +110,10 @@ fn check_identity<'a>(
     ensures { λ r. ⌜ Decides (identityChecks (now (pack .entry)) (now (batch .entry)) (now (house .entry)) n j) r ⌝ }
 {
     let id = identity_at(pack, n, start, j);
-    if !identity::place_inside(batch, house, id) {
+    if !identity::place::place_inside(batch, house, id) {
         return Outcome::Refused(Refusal::IdentityOutside { record: n });
     }
-    if !identity::is_utf8(identity::identity_text(batch, house, id)) {
+    if !identity::scan::is_utf8(identity::place::identity_text(batch, house, id)) {
         return Outcome::Refused(Refusal::NotUtf8 { record: n });
     }
     Outcome::Passed
