@@ -1,6 +1,6 @@
 // Whether a text is UTF-8, and whether it is a valid identity: by blocks where that can be, else scalar by scalar.
 ghost use mathlib.Core.Path.{_≡_};
-ghost use mathlib.Core.Bool.{true};
+ghost use mathlib.Core.Bool.{true, false};
 ghost use Prim.Native.Nat.{_+_, _-_, _<_, _≤_};
 ghost use lib.ListN.{length};
 ghost use Rattle.identity.specs.Utf8.{utf8};
@@ -137,55 +137,56 @@ fn low_after(a: u8, low: u8, p: u8, b: u8) -> bool
     (p == a) & (b < low)
 }
 
-// Whether some scalar that is no control has b after p.
-fn second(b: u8, p: u8) -> bool
-    ensures { λ r. ⌜ r ≡ second b p ⌝ }
+// Whether some scalar has b after p; a control only where `any` may stand.
+fn second(any: bool, b: u8, p: u8) -> bool
+    ensures { λ r. ⌜ r ≡ second any b p ⌝ }
 {
-    let low = low_after(0xC2, 0xA0, p, b) | low_after(0xE0, 0xA0, p, b);
-    follows(b) & (!low & (!low_after(0xF0, 0x90, p, b) & !((p == 0xF4) & (0x90 <= b))))
+    let low = low_after(0xE0, 0xA0, p, b);
+    let last = !low_after(0xF0, 0x90, p, b) & !((p == 0xF4) & (0x90 <= b));
+    follows(b) & ((any | !low_after(0xC2, 0xA0, p, b)) & (!low & last))
 }
 
-// Whether some scalar that is no control starts with b.
-fn starts(b: u8) -> bool
-    ensures { λ r. ⌜ r ≡ starts b ⌝ }
+// Whether some scalar starts with b, in the same way.
+fn starts(any: bool, b: u8) -> bool
+    ensures { λ r. ⌜ r ≡ starts any b ⌝ }
 {
-    printable(b) | ((0xC2 <= b) & (b <= 0xF4))
+    (ascii(b) & (any | printable(b))) | ((0xC2 <= b) & (b <= 0xF4))
 }
 
 // Whether b fits the three bytes before it. No branch, so that 16 are tested at once.
-fn fits(b: u8, p: u8, q: u8, r: u8) -> bool
-    ensures { λ z. ⌜ z ≡ fits b p q r ⌝ }
+fn fits(any: bool, b: u8, p: u8, q: u8, r: u8) -> bool
+    ensures { λ z. ⌜ z ≡ fits any b p q r ⌝ }
 {
     let due = due(p, q, r);
-    (due & second(b, p)) | (!due & starts(b))
+    (due & second(any, b, p)) | (!due & starts(any, b))
 }
 
 // Whether each of the 16 bytes from `at` fits the three before it.
-fn fits_block(text: &[u8], at: usize) -> bool
+fn fits_block(any: bool, text: &[u8], at: usize) -> bool
     requires { ⌜ 3 ≤ at ⌝ }
     requires { ⌜ at + 16 ≤ length (now text) ⌝ }
-    ensures { λ r. ⌜ r ≡ every (fitsAt (now (text .entry))) at 16 ⌝ }
+    ensures { λ r. ⌜ r ≡ every (fitsAt any (now (text .entry))) at 16 ⌝ }
 {
     let mut all = true;
     let mut k = 0;
     while k < 16 {
         let i = at + k;
-        all = all & fits(text[i], text[i - 1], text[i - 2], text[i - 3]);
+        all = all & fits(any, text[i], text[i - 1], text[i - 2], text[i - 3]);
         k += 1;
     }
     all
 }
 
 // How many bytes from `at` on fit the three before them, by blocks of 16, none of them the last.
-fn fits_blocks(text: &[u8], at: usize) -> usize
+fn fits_blocks(any: bool, text: &[u8], at: usize) -> usize
     requires { ⌜ 3 ≤ at ⌝ }
     requires { ⌜ at < length (now text) ⌝ }
-    ensures { λ r. ⌜ Run (fitsAt (now (text .entry))) at r (length (now (text .entry)) - 1) ⌝ }
+    ensures { λ r. ⌜ Run (fitsAt any (now (text .entry))) at r (length (now (text .entry)) - 1) ⌝ }
 {
     let rest = text.len() - at;
     let mut k = 0;
     while k + 16 < rest {
-        if !fits_block(text, at + k) {
+        if !fits_block(any, text, at + k) {
             return k;
         }
         k += 16;
@@ -217,11 +218,11 @@ fn whole_scalars(text: &[u8], at: usize, k: usize) -> usize
     w
 }
 
-// How many bytes from `at` on are scalars inside the text and no controls, by blocks of 16; 0 where a block is not, or is not tested.
-fn inner_scalars(text: &[u8], at: usize) -> usize
+// How many bytes from `at` on are scalars inside the text, by blocks of 16, and no controls unless `any` may stand; 0 where a block is not so, or is not tested.
+fn inner_scalars(any: bool, text: &[u8], at: usize) -> usize
     requires { ⌜ at < length (now text) ⌝ }
     ensures { λ r. ⌜ Passed (utf8From (now (text .entry))) (length (now (text .entry))) at r ⌝ }
-    ensures { λ r. ⌜ Passed (idFrom (now (text .entry))) (length (now (text .entry))) at r ⌝ }
+    ensures { λ r. ⌜ (any ≡ false → Passed (idFrom (now (text .entry))) (length (now (text .entry))) at r) ⌝ }
 {
     if at < 3 {
         return 0;
@@ -229,7 +230,7 @@ fn inner_scalars(text: &[u8], at: usize) -> usize
     if !quiet(text, at) {
         return 0;
     }
-    whole_scalars(text, at, fits_blocks(text, at))
+    whole_scalars(text, at, fits_blocks(any, text, at))
 }
 
 // How many bytes from `at` on are whole scalars: blocks of ASCII, a few bytes of it, or one scalar; 0 where there is none.
@@ -238,7 +239,7 @@ fn utf8_step(text: &[u8], at: usize) -> usize
     ensures { λ r. ⌜ Stepped (utf8From (now (text .entry))) (length (now (text .entry))) at r ⌝ }
 {
     if !ascii(text[at]) {
-        let many = inner_scalars(text, at);
+        let many = inner_scalars(true, text, at);
         if many != 0 {
             return many;
         }
@@ -377,7 +378,7 @@ fn id_step(text: &[u8], at: usize) -> usize
     ensures { λ r. ⌜ Stepped (idFrom (now (text .entry))) (length (now (text .entry))) at r ⌝ }
 {
     if !visible(text[at]) {
-        let many = inner_scalars(text, at);
+        let many = inner_scalars(false, text, at);
         if many != 0 {
             return many;
         }

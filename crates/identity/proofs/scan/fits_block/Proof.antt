@@ -10,10 +10,10 @@ use Rattle.identity.proofs.scan.fits_block.Statement.{statement}
 use Rattle.identity.proofs.scan.fits_block.Tie as tie
 
 abbrev Inv-loop : tie.InvT-loop
-Inv-loop text at all₀ k₀ all k = (k ≤ 16) × (all ≡ every (fitsAt text) at k)
+Inv-loop any text at all₀ k₀ all k = (k ≤ 16) × (all ≡ every (fitsAt any text) at k)
 
 abbrev μ-loop : tie.MeasureT-loop
-μ-loop text at all₀ k₀ all k = 16 - k
+μ-loop any text at all₀ k₀ all k = 16 - k
 
 pub fits-block-spec : {M : Type 1} → statement M
 fits-block-spec =

@@ -11,10 +11,10 @@ use Rattle.identity.proofs.scan.fits_blocks.Statement.{statement}
 use Rattle.identity.proofs.scan.fits_blocks.Tie as tie
 
 abbrev Inv-loop : tie.InvT-loop
-Inv-loop text at rest k₀ k = Run (fitsAt text) at k (length text - 1)
+Inv-loop any text at rest k₀ k = Run (fitsAt any text) at k (length text - 1)
 
 abbrev μ-loop : tie.MeasureT-loop
-μ-loop text at rest k₀ k = rest - k
+μ-loop any text at rest k₀ k = rest - k
 
 pub fits-blocks-spec : {M : Type 1} → statement M
 fits-blocks-spec =

@@ -1,4 +1,5 @@
 -- `identity::scan::id_step` meets its contract. Each answer is a law of proofs/Valid.antt. Assumes nothing.
+use mathlib.Core.Path.{refl}
 use borrow.Author.Needs.{needs}
 use Rattle.identity.proofs.Tests.{tested}
 use Rattle.identity.proofs.Steps.{passed-step}
@@ -13,7 +14,7 @@ id-step-spec =
     (λ c. search needs)
     (λ c κs. search needs)
     (λ c κs. search needs)
-    (λ c. search passed-step)
+    (λ c. passed-step (c .before .inner-scalars .ensures .1 refl) (search needs))
     (λ c κs. search needs)
     (λ c. search needs)
     (λ c κs. search needs)

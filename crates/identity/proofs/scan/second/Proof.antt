@@ -11,4 +11,4 @@ second-spec =
     (λ c κs. search needs)
     (λ c κs. search needs)
     (λ c κs. search needs)
-    (λ c. rw (c .before .before .before .low-after .ensures, c .before .before .low-after2 .ensures, c .before .follows .ensures, c .low-after3 .ensures)))
+    (λ c. rw (c .before .follows .ensures, c .low-after3 .ensures, c .before .before .before .low-after .ensures, c .before .before .low-after2 .ensures)))
