@@ -12,7 +12,7 @@ use Rattle.identity.specs.Scan.{ascii, printable}
 abbrev pub due : ℕ → ℕ → ℕ → Bool
 due p q r = leb 0xC0 p || (leb 0xE0 q || leb 0xF0 r)
 
--- b is lower than the bytes that follow the first byte a.
+-- b stands after the first byte a and is lower than `low`; p is the byte before b.
 abbrev pub lowAfter : ℕ → ℕ → ℕ → ℕ → Bool
 lowAfter a low p b = eqb p a && ltb b low
 

@@ -130,7 +130,7 @@ fn due(p: u8, q: u8, r: u8) -> bool
     (0xC0 <= p) | ((0xE0 <= q) | (0xF0 <= r))
 }
 
-// Whether b is lower than the bytes that follow the first byte a.
+// Whether b stands after the first byte a and is lower than `low`.
 fn low_after(a: u8, low: u8, p: u8, b: u8) -> bool
     ensures { λ r. ⌜ r ≡ lowAfter a low p b ⌝ }
 {
@@ -203,7 +203,7 @@ fn quiet(text: &[u8], at: usize) -> bool
     !due(text[at - 1], text[at - 2], text[at - 3])
 }
 
-// The last of the k bytes from `at` that no scalar ends after are left off.
+// How many of the k bytes from `at` are whole scalars: the beginning of one at the end is left off.
 fn whole_scalars(text: &[u8], at: usize, k: usize) -> usize
     requires { ⌜ 3 ≤ at ⌝ }
     requires { ⌜ at + k ≤ length (now text) ⌝ }
@@ -233,7 +233,7 @@ fn inner_scalars(any: bool, text: &[u8], at: usize) -> usize
     whole_scalars(text, at, fits_blocks(any, text, at))
 }
 
-// How many bytes from `at` on are whole scalars: blocks of ASCII, a few bytes of it, or one scalar; 0 where there is none.
+// How many bytes from `at` on are whole scalars: blocks of any, blocks of ASCII, a few bytes of it, or one scalar; 0 where there is none.
 fn utf8_step(text: &[u8], at: usize) -> usize
     requires { ⌜ at < length (now text) ⌝ }
     ensures { λ r. ⌜ Stepped (utf8From (now (text .entry))) (length (now (text .entry))) at r ⌝ }
@@ -372,7 +372,7 @@ fn visible_few(text: &[u8], at: usize) -> usize
     1
 }
 
-// How many bytes from `at` on may stand there in an identity: blocks of printable ASCII inside the text, a few visible bytes, or one scalar; 0 where none may.
+// How many bytes from `at` on may stand there in an identity: blocks of scalars or of printable ASCII inside the text, a few visible bytes, or one scalar; 0 where none may.
 fn id_step(text: &[u8], at: usize) -> usize
     requires { ⌜ at < length (now text) ⌝ }
     ensures { λ r. ⌜ Stepped (idFrom (now (text .entry))) (length (now (text .entry))) at r ⌝ }
