@@ -2,8 +2,8 @@
 ghost use mathlib.Core.Path.{_≡_};
 ghost use mathlib.Core.List.{[], _∷_};
 ghost use Prim.Native.Nat.{ℕ, _+_, _<_};
-ghost use Rattle.answers.specs.Checks.{Decides};
-ghost use Rattle.answers.specs.PassesIf.{PassesIf};
+ghost use Rattle.answers.specs.Checks.{first, Decides};
+ghost use Rattle.answers.specs.PassesIf.{isPassed, PassesIf};
 ghost use Rattle.checks.specs.Image.{startOf, rowsOf, reactionsAt, levelsAt, lifecyclesAt};
 ghost use Rattle.checks.specs.Lists.{entryIndex, levelEqual, levelLess, levelRefChecks, levelOrderChecks, levelChecks, lifecycleChecks, levelsChecks, lifecyclesChecks};
 ghost use Rattle.checks.specs.PassedOver.{entryOf, entryChecks, PassedOver};
@@ -250,15 +250,27 @@ pub fn validate_levels(p: &[u8], s: &TableStarts, table: u8, start: u32, len: u3
     check_levels(p, s, table, start, len)
 }
 
-// A quick test of the `len` entries from `start`, for callers that have many ranges: where it is true they pass, and where it is false nothing is said.
+fn is_passed(outcome: Outcome) -> bool
+    ensures { λ r. ⌜ r ≡ isPassed outcome ⌝ }
+{
+    match outcome {
+        Outcome::Passed => true,
+        Outcome::Refused(_) => false,
+    }
+}
+
+// Whether the `len` entries from `start` pass, for callers that have many ranges: most are seen to pass at once, and the others are checked one by one.
 pub fn levels_pass(p: &[u8], s: &TableStarts, table: u8, start: u32, len: u32) -> bool
     requires { ⌜ table < 25 ⌝ }
-    ensures { λ r. ⌜ PassesIf (levelsChecks (rowsOf (now (s .entry))) (reactionsAt (now (p .entry)) (now (s .entry))) (levelsAt (now (p .entry)) (now (s .entry))) table start len) r ⌝ }
+    ensures { λ r. ⌜ r ≡ isPassed (first (levelsChecks (rowsOf (now (s .entry))) (reactionsAt (now (p .entry)) (now (s .entry))) (levelsAt (now (p .entry)) (now (s .entry))) table start len)) ⌝ }
 {
     if len == 0 {
         return true;
     }
-    levels_past(p, s, table, start, len) == len
+    if levels_past(p, s, table, start, len) == len {
+        return true;
+    }
+    is_passed(check_levels(p, s, table, start, len))
 }
 
 // How many of the `len` lifecycle reactions from `start` are seen to pass, in the same way: the action is there too.

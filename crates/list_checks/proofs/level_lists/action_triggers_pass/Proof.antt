@@ -1,4 +1,5 @@
 -- `list_checks::level_lists::action_triggers_pass` meets its contract. Assumes nothing.
+use Rattle.answers.proofs.Quick.{exactly}
 use Rattle.list_checks.specs.ListTables.{actionTriggerChecks}
 use borrow.Author.Needs.{needs}
 use Rattle.list_checks.proofs.level_lists.action_triggers_pass.Statement.{statement}
@@ -6,7 +7,7 @@ use Rattle.list_checks.proofs.level_lists.action_triggers_pass.Tie as t
 
 returns : tie.Need-returns
 unfolding actionTriggerChecks
-returns c = rw (← c .before .before .row-number .ensures, ← c .before .action-triggers-at .ensures) (c .levels-pass .ensures)
+returns c = rw (← c .before .before .row-number .ensures, ← c .before .action-triggers-at .ensures) (exactly (c .levels-pass .ensures))
 
 pub action-triggers-pass-spec : {M : Type 1} → statement M
 action-triggers-pass-spec =
