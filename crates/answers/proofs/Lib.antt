@@ -1,6 +1,6 @@
 pub mod Laws
+pub mod Quick
 pub mod Loops
 pub mod Looser
 pub mod Slots
 pub mod RefusalNumbers
-pub mod Quick

@@ -1,14 +1,18 @@
 -- A loop over a run of checks: what is left at i decides the whole run. Assumes nothing.
 use Prim.Native.Nat.{ℕ, zero, suc, _+_, _-_, _<_, _≤_}
+use mathlib.Core.Bool.{Bool, false, not}
 use mathlib.Core.Path.{_≡_, refl, _∙_, sym}
 use mathlib.Core.List.{List}
 use native.Mathlib.Numerals.{add-one}
 use native.Mathlib.Omega.{arith}
+use borrow.Author.Tests.{not-false}
 use Rattle.answers.specs.declared.Refusal.{Refusal}
 use Rattle.answers.specs.declared.Outcome.{Outcome}
 use Rattle.answers.specs.declared.Outcome.the-variants.{Passed, Refused}
 use Rattle.answers.specs.Checks.{Check, first, run, Decides}
+use Rattle.answers.specs.PassesIf.{PassesIf}
 use Rattle.answers.proofs.Laws.{first-past, first-stops}
+use Rattle.answers.proofs.Quick.{surely}
 
 -- a run that is not over starts with the checks at i
 run-at : (f : ℕ → List Check) (i n : ℕ) → i < n → n - i ≡ suc (n - (i + 1))
@@ -37,6 +41,20 @@ remaining-stop {f} {i} {n} l h d e =
 pub remaining-none : {f : ℕ → List Check} {i n : ℕ} → Remaining f i n → n ≤ i → Decides (run f 0 n) Passed
 unfolding first run
 remaining-none {f} {i} {n} l h = record { is = let k : n - i ≡ 0 = omega arith in sym (l .same ∙ rw k) }
+
+-- an item that a quick test holds of is passed over
+pub quick-step : {f : ℕ → List Check} {i n : ℕ} {b : Bool} → Remaining f i n → i < n → PassesIf (f i) b → not b ≡ false → Remaining f (i + 1) n
+quick-step {b = b} l h q e = remaining-step l h (surely q (not-false b e)) refl
+
+-- the end of a loop whose bound k is the run's length n by an equation, as a callee's answer is
+pub loop-stop : {f : ℕ → List Check} {i k n : ℕ} {o : Outcome} {r : Refusal} → Remaining f i k → k ≡ n → i < k → Decides (f i) o → o ≡ Refused r → Decides (run f 0 n) o
+loop-stop l e h d t = rw (← e) (remaining-stop l h d t)
+
+pub loop-none : {f : ℕ → List Check} {i k n : ℕ} → Remaining f i k → k ≡ n → k ≤ i → Decides (run f 0 n) Passed
+loop-none l e h = rw (← e) (remaining-none l h)
+
+-- all that a loop over items has to show: `search` finds the premises among what is known at each place
+pub ruleset loop-laws = (remaining-start, remaining-step, quick-step, loop-stop, loop-none)
 
 -- a run of no items
 pub no-items : (f : ℕ → List Check) {n : ℕ} → n ≡ 0 → Decides (run f 0 n) Passed

@@ -1,14 +1,11 @@
--- Laws of `isPassed` and `PassesIf`, and a loop that passes over items by a quick test. Assumes nothing.
-use Prim.Native.Nat.{ℕ, _+_, _<_}
-use mathlib.Core.Bool.{Bool, true, false, not, true≢false}
+-- Laws of `isPassed` and `PassesIf`. Assumes nothing.
+use mathlib.Core.Bool.{Bool, true, false, true≢false}
 use mathlib.Core.Path.{_≡_, refl, sym}
 use mathlib.Core.List.{List}
-use borrow.Author.Tests.{not-false}
 use Rattle.answers.specs.declared.Outcome.{Outcome}
 use Rattle.answers.specs.declared.Outcome.the-variants.{Passed, Refused}
 use Rattle.answers.specs.Checks.{Check, first, Decides}
 use Rattle.answers.specs.PassesIf.{isPassed, PassesIf}
-use Rattle.answers.proofs.Loops.{Remaining, remaining-step}
 
 -- nothing is said
 pub unsure : {cs : List Check} → PassesIf cs false
@@ -35,7 +32,3 @@ is-passed (Refused r) e = absurd (true≢false e)
 
 pub exactly : {cs : List Check} {b : Bool} → b ≡ isPassed (first cs) → PassesIf cs b
 exactly {cs} e = record { passes = λ t. is-passed (first cs) (rw t at e) }
-
--- an item that the quick test holds of is passed over
-pub quick-step : {f : ℕ → List Check} {i n : ℕ} {b : Bool} → Remaining f i n → i < n → PassesIf (f i) b → not b ≡ false → Remaining f (i + 1) n
-quick-step {b = b} l h q e = remaining-step l h (surely q (not-false b e)) refl

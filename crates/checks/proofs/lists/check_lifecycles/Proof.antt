@@ -1,7 +1,7 @@
 -- `checks::lists::check_lifecycles` meets its contract. Assumes nothing.
 use Rattle.checks.specs.Lists.{lifecycleChecks, lifecyclesChecks}
 use Rattle.checks.specs.Image.{rowsOf, reactionsAt, lifecyclesAt}
-use Rattle.answers.proofs.Loops.{Remaining, remaining-step, remaining-stop, remaining-none}
+use Rattle.answers.proofs.Loops.{Remaining, loop-laws}
 use Rattle.checks.proofs.PassedLaws.{passed-over}
 use borrow.Author.Needs.{needs}
 use native.Mathlib.Omega.{arith}
@@ -17,11 +17,11 @@ abbrev μ-loop : tie.MeasureT-loop
 
 returns : tie.Need-returns Inv-loop μ-loop
 unfolding lifecyclesChecks
-returns c = remaining-stop (c .before .before .before .before .loop .inv) (c .before .before .before .loop-test .taken) (c .before .before .check-lifecycle .ensures) (c .enum-told2 .given .1)
+returns c = search loop-laws
 
 returns-2 : tie.Need-returns-2 Inv-loop μ-loop
 unfolding lifecyclesChecks
-returns-2 c = remaining-none (c .before .loop .inv) (c .loop-test .left)
+returns-2 c = search loop-laws
 
 pub check-lifecycles-spec : {M : Type 1} → statement M
 check-lifecycles-spec =
@@ -30,12 +30,12 @@ check-lifecycles-spec =
     Inv-loop
     μ-loop
     (λ c κs. search needs)
-    (λ c. passed-over _ (c .lifecycles-past .ensures))
+    (λ c. search passed-over)
     (λ c κs. search needs)
     (λ c. search needs)
     (λ c. search needs)
     returns
     (λ c. omega arith)
     (λ c. omega arith)
-    (λ c. remaining-step (c .before .before .before .before .loop .inv) (c .before .before .before .loop-test .taken) (c .before .before .check-lifecycle .ensures) (c .enum-told .given .1))
+    (λ c. search loop-laws)
     returns-2)

@@ -2,7 +2,7 @@
 use Prim.Native.Nat.{_-_}
 use borrow.Author.Needs.{needs}
 use native.Mathlib.Omega.{arith}
-use Rattle.answers.proofs.Loops.{Remaining, remaining-start, remaining-step, remaining-stop, remaining-none}
+use Rattle.answers.proofs.Loops.{Remaining, loop-laws}
 use Rattle.federate.proofs.route_pairs.check_each.Statement.{statement}
 use Rattle.federate.proofs.route_pairs.check_each.Tie as tie
 use Rattle.federate.specs.RoutePairs.{routeRecordChecks}
@@ -21,12 +21,12 @@ check-each-spec =
     Inv-loop
     μ-loop
     (λ c κs. search needs)
-    (λ c. remaining-start _ _)
+    (λ c. search loop-laws)
     (λ c κs. search needs)
     (λ c. search needs)
     (λ c. search needs)
-    (λ c. rw (← c .before .before .before .before .before .records-of .ensures) (remaining-stop (c .before .before .before .before .loop .inv) (c .before .before .before .loop-test .taken) (c .before .before .check-record .ensures) (c .enum-told2 .given .1)))
+    (λ c. search loop-laws)
     (λ c. search needs)
     (λ c. omega arith)
-    (λ c. remaining-step (c .before .before .before .before .loop .inv) (c .before .before .before .loop-test .taken) (c .before .before .check-record .ensures) (c .enum-told .given .1))
-    (λ c. rw (← c .before .before .records-of .ensures) (remaining-none (c .before .loop .inv) (c .loop-test .left))))
+    (λ c. search loop-laws)
+    (λ c. search loop-laws))

@@ -1,7 +1,7 @@
 -- `list_checks::list_tables::check_enabled_modes` meets its contract. Assumes nothing.
 use Rattle.list_checks.specs.ListTables.{indexesAt, enabledModeChecks, enabledModesChecks}
 use Rattle.checks.specs.Image.{rowsOf, modesAt}
-use Rattle.answers.proofs.Loops.{Remaining, remaining-start, remaining-step, remaining-stop, remaining-none}
+use Rattle.answers.proofs.Loops.{Remaining, loop-laws}
 use borrow.Author.Needs.{needs}
 use native.Mathlib.Omega.{arith}
 use Prim.Native.Nat.{_-_}
@@ -16,11 +16,11 @@ abbrev μ-loop : tie.MeasureT-loop
 
 returns : tie.Need-returns Inv-loop μ-loop
 unfolding enabledModesChecks
-returns c = rw (← c .before .before .before .before .before .before .before .row-number .ensures, ← c .before .before .before .before .before .before .reaction-reactor-at .ensures, ← c .before .before .before .before .before .reaction-enabled-modes-at .ensures) (remaining-stop (c .before .before .before .before .loop .inv) (c .before .before .before .loop-test .taken) (c .before .before .check-enabled-mode .ensures) (c .enum-told2 .given .1))
+returns c = rw (← c .before .before .before .before .before .before .before .row-number .ensures, ← c .before .before .before .before .before .before .reaction-reactor-at .ensures, ← c .before .before .before .before .before .reaction-enabled-modes-at .ensures) (search loop-laws)
 
 returns-2 : tie.Need-returns-2 Inv-loop μ-loop
 unfolding enabledModesChecks
-returns-2 c = rw (← c .before .before .before .before .row-number .ensures, ← c .before .before .before .reaction-reactor-at .ensures, ← c .before .before .reaction-enabled-modes-at .ensures) (remaining-none (c .before .loop .inv) (c .loop-test .left))
+returns-2 c = rw (← c .before .before .before .before .row-number .ensures, ← c .before .before .before .reaction-reactor-at .ensures, ← c .before .before .reaction-enabled-modes-at .ensures) (search loop-laws)
 
 pub check-enabled-modes-spec : {M : Type 1} → statement M
 check-enabled-modes-spec =
@@ -31,12 +31,12 @@ check-enabled-modes-spec =
     (λ c κs. search needs)
     (λ c κs. search needs)
     (λ c κs. search needs)
-    (λ c. remaining-start _ _)
+    (λ c. search loop-laws)
     (λ c κs. search needs)
     (λ c. search needs)
     (λ c. search needs)
     returns
     (λ c. omega arith)
     (λ c. omega arith)
-    (λ c. remaining-step (c .before .before .before .before .loop .inv) (c .before .before .before .loop-test .taken) (c .before .before .check-enabled-mode .ensures) (c .enum-told .given .1))
+    (λ c. search loop-laws)
     returns-2)

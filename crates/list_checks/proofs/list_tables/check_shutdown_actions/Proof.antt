@@ -3,7 +3,7 @@ use Prim.Native.Nat.{_-_}
 use mathlib.Core.List.{[]}
 use native.Mathlib.Omega.{arith}
 use borrow.Author.Needs.{needs}
-use Rattle.answers.proofs.Loops.{Remaining, remaining-start, remaining-step, remaining-stop, remaining-none}
+use Rattle.answers.proofs.Loops.{Remaining, loop-laws}
 use Rattle.checks.specs.Image.{image}
 use Rattle.list_checks.specs.ListTables.{shutdownActionChecks}
 use Rattle.list_checks.proofs.list_tables.check_shutdown_actions.Statement.{statement}
@@ -22,12 +22,12 @@ check-shutdown-actions-spec =
     Inv-loop
     μ-loop
     (λ c κs. search needs)
-    (λ c. remaining-start _ _)
+    (λ c. search loop-laws)
     (λ c κs. search needs)
     (λ c. search needs)
     (λ c. search needs)
-    (λ c. rw (← c .before .before .before .before .before .rows-of .ensures) (remaining-stop (c .before .before .before .before .loop .inv) (c .before .before .before .loop-test .taken) (c .before .before .check-shutdown-action .ensures) (c .enum-told2 .given .1)))
+    (λ c. search loop-laws)
     (λ c. omega arith)
     (λ c. omega arith)
-    (λ c. remaining-step (c .before .before .before .before .loop .inv) (c .before .before .before .loop-test .taken) (c .before .before .check-shutdown-action .ensures) (c .enum-told .given .1))
-    (λ c. rw (← c .before .before .rows-of .ensures) (remaining-none (c .before .loop .inv) (c .loop-test .left))))
+    (λ c. search loop-laws)
+    (λ c. search loop-laws))

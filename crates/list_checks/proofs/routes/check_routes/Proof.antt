@@ -1,8 +1,7 @@
 -- `list_checks::routes::check_routes` meets its contract. Assumes nothing.
 use Prim.Native.Nat.{_-_}
 use native.Mathlib.Omega.{arith}
-use Rattle.answers.proofs.Loops.{Remaining, remaining-start, remaining-step, remaining-stop, remaining-none}
-use Rattle.answers.proofs.Quick.{quick-step}
+use Rattle.answers.proofs.Loops.{Remaining, loop-laws}
 use Rattle.checks.specs.Image.{image}
 use Rattle.list_checks.specs.Routes.{routeChecks}
 use borrow.Author.Needs.{needs}
@@ -22,15 +21,15 @@ check-routes-spec =
     Inv-loop
     μ-loop
     (λ c κs. search needs)
-    (λ c. remaining-start _ _)
+    (λ c. search loop-laws)
     (λ c. omega arith)
     (λ c κs. search needs)
     (λ c κs. search needs)
     (λ c. search needs)
     (λ c. search needs)
-    (λ c. rw (← c .before .before .before .before .before .before .before .rows-of .ensures) (remaining-stop (c .before .before .before .before .before .before .loop .inv) (c .before .before .before .before .before .loop-test .taken) (c .before .before .check-route .ensures) (c .enum-told2 .given .1)))
+    (λ c. search loop-laws)
     (λ c. omega arith)
-    (λ c. remaining-step (c .before .before .before .before .before .before .loop .inv) (c .before .before .before .before .before .loop-test .taken) (c .before .before .check-route .ensures) (c .enum-told .given .1))
+    (λ c. search loop-laws)
     (λ c. omega arith)
-    (λ c. quick-step (c .before .before .before .loop .inv) (c .before .before .loop-test .taken) (c .before .route-passes .ensures) (c .if1 .left))
-    (λ c. rw (← c .before .before .rows-of .ensures) (remaining-none (c .before .loop .inv) (c .loop-test .left))))
+    (λ c. search loop-laws)
+    (λ c. search loop-laws))

@@ -1,7 +1,7 @@
 -- `packing::rules::check_identities` meets its contract. Assumes nothing.
 use Prim.Native.Nat.{_-_}
 use borrow.Author.Needs.{needs}
-use Rattle.answers.proofs.Loops.{Remaining, remaining-start, remaining-step, remaining-stop, remaining-none}
+use Rattle.answers.proofs.Loops.{Remaining, loop-laws}
 use Rattle.packing.specs.Packing.{identityChecks}
 use Rattle.packing.proofs.rules.check_identities.Statement.{statement}
 use Rattle.packing.proofs.rules.check_identities.Tie as tie
@@ -18,12 +18,12 @@ check-identities-spec =
     (tie.spec
     Inv-loop
     μ-loop
-    (λ c. remaining-start _ _)
+    (λ c. search loop-laws)
     (λ c κs. search needs)
     (λ c. search needs)
     (λ c. search needs)
-    (λ c. search (remaining-stop))
+    (λ c. search loop-laws)
     (λ c. search needs)
     (λ c. search needs)
-    (λ c. search (remaining-step))
-    (λ c. search (remaining-none)))
+    (λ c. search loop-laws)
+    (λ c. search loop-laws))

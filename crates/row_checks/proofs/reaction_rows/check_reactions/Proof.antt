@@ -3,8 +3,7 @@ use Prim.Native.Nat.{_-_}
 use mathlib.Core.List.{[]}
 use native.Mathlib.Omega.{arith}
 use borrow.Author.Needs.{needs}
-use Rattle.answers.proofs.Quick.{quick-step}
-use Rattle.answers.proofs.Loops.{Remaining, remaining-start, remaining-step, remaining-stop, remaining-none}
+use Rattle.answers.proofs.Loops.{Remaining, loop-laws}
 use Rattle.checks.specs.Image.{image}
 use Rattle.row_checks.specs.Reactions.{reactionChecks}
 use Rattle.row_checks.proofs.reaction_rows.check_reactions.Statement.{statement}
@@ -23,15 +22,15 @@ check-reactions-spec =
     Inv-loop
     μ-loop
     (λ c κs. search needs)
-    (λ c. remaining-start _ _)
+    (λ c. search loop-laws)
     (λ c. omega arith)
     (λ c κs. search needs)
     (λ c κs. search needs)
     (λ c. search needs)
     (λ c. search needs)
-    (λ c. rw (← c .before .before .before .before .before .before .before .rows-of .ensures) (remaining-stop (c .before .before .before .before .before .before .loop .inv) (c .before .before .before .before .before .loop-test .taken) (c .before .before .check-reaction .ensures) (c .enum-told2 .given .1)))
+    (λ c. search loop-laws)
     (λ c. omega arith)
-    (λ c. remaining-step (c .before .before .before .before .before .before .loop .inv) (c .before .before .before .before .before .loop-test .taken) (c .before .before .check-reaction .ensures) (c .enum-told .given .1))
+    (λ c. search loop-laws)
     (λ c. omega arith)
-    (λ c. quick-step (c .before .before .before .loop .inv) (c .before .before .loop-test .taken) (c .before .reaction-passes .ensures) (c .if1 .left))
-    (λ c. rw (← c .before .before .rows-of .ensures) (remaining-none (c .before .loop .inv) (c .loop-test .left))))
+    (λ c. search loop-laws)
+    (λ c. search loop-laws))
