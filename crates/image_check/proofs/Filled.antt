@@ -13,7 +13,7 @@ use Rattle.answers.specs.Listed.{listed}
 use Rattle.image_check.specs.Answered.{filled, Answered}
 
 -- zeros after the numbers, counted from either end
-few-zeros : (k n : ℕ) → k ≤ n → take k (replicate n 0) ≡ replicate k 0
+few-zeros : (k n : ℕ) → k ≤ n → take {A = ℕ} k (replicate n 0) ≡ replicate k 0
 few-zeros zero n h = refl
 few-zeros (suc k) zero h = absurd (none h)
   where
