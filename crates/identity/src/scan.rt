@@ -218,15 +218,21 @@ fn whole_scalars(text: &[u8], at: usize, k: usize) -> usize
     w
 }
 
-// How many bytes from `at` on are scalars inside the text, by blocks of 16, and no controls unless `any` may stand; 0 where a block is not so, or is not tested.
+// Whether a block of 16 bytes from `at` on may be tested: three bytes stand before it, and one after it.
+fn block_ahead(text: &[u8], at: usize) -> bool
+    requires { ⌜ at < length (now text) ⌝ }
+    ensures { λ r. ⌜ (r ≡ true → 3 ≤ at) ⌝ }
+{
+    (3 <= at) & (16 < text.len() - at)
+}
+
+// How many bytes from `at` on are scalars inside the text, by blocks of 16, and no controls unless `any` may stand; 0 where the first block is not so.
 fn inner_scalars(any: bool, text: &[u8], at: usize) -> usize
+    requires { ⌜ 3 ≤ at ⌝ }
     requires { ⌜ at < length (now text) ⌝ }
     ensures { λ r. ⌜ Passed (utf8From (now (text .entry))) (length (now (text .entry))) at r ⌝ }
     ensures { λ r. ⌜ (any ≡ false → Passed (idFrom (now (text .entry))) (length (now (text .entry))) at r) ⌝ }
 {
-    if at < 3 {
-        return 0;
-    }
     if !quiet(text, at) {
         return 0;
     }
@@ -239,9 +245,11 @@ fn utf8_step(text: &[u8], at: usize) -> usize
     ensures { λ r. ⌜ Stepped (utf8From (now (text .entry))) (length (now (text .entry))) at r ⌝ }
 {
     if !ascii(text[at]) {
-        let many = inner_scalars(true, text, at);
-        if many != 0 {
-            return many;
+        if block_ahead(text, at) {
+            let many = inner_scalars(true, text, at);
+            if many != 0 {
+                return many;
+            }
         }
         return scalar_width(text, at);
     }
@@ -378,9 +386,11 @@ fn id_step(text: &[u8], at: usize) -> usize
     ensures { λ r. ⌜ Stepped (idFrom (now (text .entry))) (length (now (text .entry))) at r ⌝ }
 {
     if !visible(text[at]) {
-        let many = inner_scalars(false, text, at);
-        if many != 0 {
-            return many;
+        if block_ahead(text, at) {
+            let many = inner_scalars(false, text, at);
+            if many != 0 {
+                return many;
+            }
         }
         return id_scalar(text, at);
     }

@@ -1,4 +1,5 @@
 //! Measures boomerang's Rust and this check on the same packs: bench [FAMILY..] [--quick]
+mod chance;
 mod decode;
 mod families;
 mod linked;
@@ -8,6 +9,9 @@ mod names;
 mod packs;
 mod refused;
 mod routes;
+#[allow(dead_code)]
+#[path = "../../gen/src/rng.rs"]
+mod rng;
 mod rows;
 mod rules;
 mod rust;
@@ -67,6 +71,7 @@ fn main() -> ExitCode {
     }
     if options.takes(TEXTS) {
         agreed &= texts::run(options.effort());
+        agreed &= chance::agree(1_000_000);
     }
     println!("\n{}", if agreed { "all answers agree" } else { "SOME ANSWERS DIFFER" });
     ExitCode::from(!agreed as u8)

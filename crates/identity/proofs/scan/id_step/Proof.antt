@@ -14,6 +14,7 @@ id-step-spec =
     (λ c. search needs)
     (λ c κs. search needs)
     (λ c κs. search needs)
+    (λ c κs. (c .before .block-ahead .ensures (c .if2 .taken), search needs))
     (λ c. passed-step (c .before .inner-scalars .ensures .1 refl) (search needs))
     (λ c κs. search needs)
     (λ c. search needs)

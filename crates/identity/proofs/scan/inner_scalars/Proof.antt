@@ -11,12 +11,11 @@ pub inner-scalars-spec : {M : Type 1} → statement M
 inner-scalars-spec =
     tie.close
     (tie.spec
-    (λ c. (passed-none _ _ _ (omega arith), λ _. passed-none _ _ _ (omega arith)))
     (λ c κs. search needs)
     (λ c. (passed-none _ _ _ (omega arith), λ _. passed-none _ _ _ (omega arith)))
     (λ c κs. search needs)
     (λ c κs. let h = c .fits-blocks .ensures .inside in (omega arith, (omega arith, search tested)))
     (λ c. (
-      passed-utf8 (c .before .before .before .before .before .before .args .any) _ _ _ _ (omega arith) (c .before .fits-blocks .ensures) (c .whole-scalars .ensures .0) (search tested) (c .whole-scalars .ensures .1),
-      passed-id (c .before .before .before .before .before .before .args .any) _ _ _ _ (omega arith) (c .before .fits-blocks .ensures) (c .whole-scalars .ensures .0) (search tested) (c .whole-scalars .ensures .1),
+      passed-utf8 (c .before .before .before .before .before .args .any) _ _ _ _ (omega arith) (c .before .fits-blocks .ensures) (c .whole-scalars .ensures .0) (search tested) (c .whole-scalars .ensures .1),
+      passed-id (c .before .before .before .before .before .args .any) _ _ _ _ (omega arith) (c .before .fits-blocks .ensures) (c .whole-scalars .ensures .0) (search tested) (c .whole-scalars .ensures .1),
     )))

@@ -13,6 +13,7 @@ utf8-step-spec =
     (λ c. search needs)
     (λ c κs. search needs)
     (λ c κs. search needs)
+    (λ c κs. (c .before .block-ahead .ensures (c .if2 .taken), search needs))
     (λ c. search passed-step)
     (λ c κs. search needs)
     (λ c. search utf8-laws)
