@@ -5,7 +5,7 @@ use mathlib.Core.List.{List}
 use mathlib.Core.Path.{_≡_, refl, ap, sym, _∙_}
 use native.Mathlib.Numerals.{add-one}
 use native.Mathlib.Omega.{arith}
-use lib.ListN.{length, getD, replicate, length-replicate}
+use lib.ListN.{length, getD}
 use borrow.Author.Tests.{not-true, not-false}
 use Rattle.identity.specs.declared.IdentityPlace.{IdentityPlace}
 use Rattle.identity.specs.declared.ByteOrder.{ByteOrder}
@@ -202,10 +202,3 @@ no-routes text p e z =
       passes = λ n h. cases (isOf p 23 n) (λ t. absurd (let s = below-some (isOf p 23) (recordsOf p) n h t in omega arith)) (λ f. rw f);
       stops = λ h. absurd (omega arith);
     }) (omega arith)
-
--- as much room as there can be leaves less to ask for than d does
-pub room-less : (n : ℕ) {d k t : ℕ} → n - d ≡ t → d < k → k ≤ n → n - length {A = ℕ} (replicate n 0) < t
-room-less n e h l = rw length-replicate (omega arith)
-
-pub same-room : (n : ℕ) → length {A = ℕ} (replicate n 0) ≤ length {A = ℕ} (replicate n 0)
-same-room n = omega arith

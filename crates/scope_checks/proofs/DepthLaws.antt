@@ -6,7 +6,7 @@ use mathlib.Core.Path.{_≡_, refl, _∙_}
 use native.Mathlib.Omega.{arith}
 use borrow.Author.Tests.{eqb-true, eqb-false}
 use lib.Dec.{eqb}
-use lib.ListN.{length, getD, set, replicate, length-replicate}
+use lib.ListN.{length, getD, set, replicate}
 use lib.Seq.{getD-set-same, getD-set-other}
 use Rattle.schema.specs.declared.index.ScopeIndex.{ScopeIndex}
 use Rattle.schema.specs.declared.index.MaybeScope.{MaybeScope}
@@ -71,7 +71,3 @@ zeros (suc n) (suc i) = zeros n i
 
 pub known-none : (m : Image) (n : ℕ) → Known m (replicate n 0)
 known-none m n = record { is = λ i h. absurd (omega (arith, zeros n i)) }
-
--- more room than d leaves less to ask for
-pub room-less : (n : ℕ) {d t : ℕ} → n - d ≡ t → d < n → n - length {A = ℕ} (replicate n 0) < t
-room-less n e h = rw length-replicate (omega arith)

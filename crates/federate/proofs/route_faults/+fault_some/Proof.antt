@@ -1,11 +1,11 @@
 -- `federate::route_faults::fault_some` meets its contract. The measure is the room that is short of 1024. Assumes nothing.
 use Prim.Native.Nat.{ℕ, _-_, _<_}
+use native.Mathlib.Omega.{arith}
 use borrow.Author.Needs.{needs}
 use borrow.Fn.Kinds.{In}
 use borrow.Fn.PlainCycle.{Measures, is, falls, and}
 use denote.Ref.{now}
 use lib.ListN.{length}
-use Rattle.federate.proofs.FaultLaws.{room-less, same-room}
 use Rattle.federate.proofs.route_faults.+fault_some.Lts-fault_some as lts
 use Rattle.federate.proofs.route_faults.+fault_some.Tie.{close}
 use Rattle.federate.proofs.route_faults.+fault_some.{statement}
@@ -28,9 +28,9 @@ pub +fault-some-spec : {M : Type 1} → statement M
     reads.Post
     (λ c. search needs)
     (λ c. search needs)
-    (λ c κs. let start = c .before .before .before .before .before .before .before .before in (room-less 1024 {d = length (now (start .args .rows))} (start .pre .0) (c .before .before .if1 .taken) (start .pre .1 .1), (start .pre .1 .0, start .pre .1 .1, same-room 1024)))
+    (λ c κs. omega arith)
     (λ c. search needs)
-    (λ c κs. let start = c .before .before .before .before .before .before .before .before in (start .pre .1 .0, c .before .before .if1 .left, start .pre .1 .2))
+    (λ c κs. search needs)
     (λ c. search needs)
     (λ c. search needs)
     (λ c. search needs)

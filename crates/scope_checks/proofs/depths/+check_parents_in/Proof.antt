@@ -1,7 +1,8 @@
 -- `scope_checks::depths::check_parents_in` meets its contract. The measure is the room that is short of the most. Assumes nothing.
-use Rattle.scope_checks.proofs.DepthLaws.{known-none, room-less}
+use Rattle.scope_checks.proofs.DepthLaws.{known-none}
 use Prim.Native.Nat.{ℕ, _<_, _-_}
 use lib.ListN.{length}
+use native.Mathlib.Omega.{arith}
 use denote.Ref.{now}
 use borrow.Author.Needs.{needs}
 use borrow.Fn.Kinds.{In}
@@ -37,7 +38,7 @@ pub +check-parents-in-spec : {M : Type 1} → statement M
     (λ c κs. search needs)
     (λ c. search needs)
     (λ c. search needs)
-    (λ c κs. let start = c .before .before .before .before .before .before in (room-less 65536 {d = length (now (start .args .depths))} (start .pre .0) (c .before .before .if1 .taken), known-none _ 65536))
+    (λ c κs. (omega arith, known-none _ 65536))
     (λ c. search needs)
     (λ c κs. search needs)
     (λ c. search needs)

@@ -1,5 +1,5 @@
 -- `scope_checks::depths::check_parents_some` meets its contract. The measure is the room that is short of 4096. Assumes nothing.
-use Rattle.scope_checks.proofs.DepthLaws.{known-none, room-less}
+use Rattle.scope_checks.proofs.DepthLaws.{known-none}
 use Prim.Native.Nat.{ℕ, _<_, _-_}
 use lib.ListN.{length}
 use native.Mathlib.Omega.{arith}
@@ -28,7 +28,7 @@ pub +check-parents-some-spec : {M : Type 1} → statement M
     (at-measure t)
     reads.Post
     (λ c. search needs)
-    (λ c κs. let start = c .before .before .before .before in (room-less 4096 {d = length (now (start .args .depths))} (start .pre .0) (omega arith), known-none _ 4096))
+    (λ c κs. (omega arith, known-none _ 4096))
     (λ c. search needs)
     (λ c κs. search needs)
     (λ c. search needs)
