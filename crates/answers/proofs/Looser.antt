@@ -4,7 +4,6 @@ use mathlib.Core.Bool.{Bool, true, false}
 use mathlib.Core.Path.{_≡_, refl}
 use mathlib.Core.List.{List, [], _∷_, _++_}
 use Rattle.answers.specs.declared.Refusal.the-variants.{StorageBoundExceeded}
-use Rattle.answers.specs.declared.Outcome.the-variants.{Refused}
 use Rattle.answers.specs.Checks.{Check, need, first, run}
 use Rattle.answers.specs.Slots.{SlotRefusal}
 

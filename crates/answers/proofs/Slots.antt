@@ -1,12 +1,9 @@
 -- Leaving out the slot checks: a list passes exactly where the rest passes and every slot check holds. Assumes nothing.
-use Prim.Native.Nat.{ℕ, zero, suc}
-use mathlib.Core.Bool.{Bool, true, false, _&&_, cond, and-assoc, true≢false}
+use mathlib.Core.Bool.{Bool, true, false, _&&_, and-assoc, true≢false}
 use mathlib.Core.Path.{_≡_, refl, _∙_, ap, sym}
 use mathlib.Core.List.{List, [], _∷_, _++_}
-use Rattle.answers.specs.declared.Refusal.{Refusal}
-use Rattle.answers.specs.declared.Outcome.{Outcome}
-use Rattle.answers.specs.declared.Outcome.the-variants.{Passed, Refused}
-use Rattle.answers.specs.Checks.{Check, need, first, run}
+use Rattle.answers.specs.declared.Outcome.the-variants.{Passed}
+use Rattle.answers.specs.Checks.{Check, need, first}
 use Rattle.answers.specs.Slots.{isSlot, withoutSlots, slotsHold}
 
 cases : {A : Type 0} (b : Bool) → (b ≡ true → A) → (b ≡ false → A) → A

@@ -1,6 +1,6 @@
 -- Document 01's number and values of each refusal, in its order. Assumes nothing.
 use Prim.Native.Nat.{ℕ}
-use mathlib.Core.Bool.{Bool, true, false, cond}
+use mathlib.Core.Bool.{Bool, cond}
 use mathlib.Core.List.{List, [], _∷_}
 use Rattle.identity.specs.declared.IdentityPlace.{IdentityPlace}
 use Rattle.answers.specs.declared.Refusal.{Refusal}

@@ -1,7 +1,7 @@
 -- The record of a row: table, bits, kind and fields in document 01's order. Assumes nothing.
 use Prim.Native.Nat.{ℕ, zero, suc, _+_, _/_, _%_}
 use mathlib.Core.Bool.{false}
-use mathlib.Core.List.{List, [], _∷_, _++_}
+use mathlib.Core.List.{List, _++_}
 use lib.ListN.{set}
 use Rattle.identity.specs.declared.IdentityPlace.{IdentityPlace}
 use Rattle.range.specs.declared.SliceRange.{SliceRange}

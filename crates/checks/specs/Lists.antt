@@ -1,6 +1,6 @@
 -- Lists of reactions by level (view.rs, `validate_level_ref`, `validate_levels`, `validate_lifecycle`). Assumes nothing.
 use Prim.Native.Nat.{ℕ, _+_, _-_, _%_, _^_}
-use mathlib.Core.Bool.{Bool, true, false, not, _&&_, _||_, cond}
+use mathlib.Core.Bool.{Bool, not, _&&_, _||_, cond}
 use mathlib.Core.List.{List, [], _∷_, _++_}
 use lib.Dec.{ltb, eqb}
 use Rattle.answers.specs.declared.Refusal.the-variants.{DuplicateEntry, EntriesNotSorted, OwnershipMismatch}

@@ -1,6 +1,6 @@
 -- Table lengths, references, ranges and spans: the checks that rows' checks are made of (view.rs, `check_*`). Assumes nothing.
 use Prim.Native.Nat.{ℕ, _+_, _-_, _^_}
-use mathlib.Core.Bool.{Bool, true, false, cond}
+use mathlib.Core.Bool.{Bool, false, cond}
 use mathlib.Core.List.{List, [], _∷_}
 use lib.Dec.{ltb, leb, eqb}
 use Rattle.range.specs.declared.CheckedEnd.{CheckedEnd}

@@ -1,5 +1,4 @@
 // Identities: valid, and above the identity before.
-ghost use mathlib.Core.Path.{_≡_};
 ghost use mathlib.Core.List.{[], _∷_};
 ghost use Rattle.identity.specs.Text.{identityText};
 ghost use Rattle.answers.specs.Checks.{Decides};

@@ -4,7 +4,7 @@ ghost use mathlib.Core.List.{[], _∷_};
 ghost use Prim.Native.Nat.{ℕ, _+_, _<_};
 ghost use Rattle.answers.specs.Checks.{first, Decides};
 ghost use Rattle.answers.specs.PassesIf.{isPassed, PassesIf};
-ghost use Rattle.checks.specs.Image.{startOf, rowsOf, reactionsAt, levelsAt, lifecyclesAt};
+ghost use Rattle.checks.specs.Image.{rowsOf, reactionsAt, levelsAt, lifecyclesAt};
 ghost use Rattle.checks.specs.Lists.{entryIndex, levelEqual, levelLess, levelRefChecks, levelOrderChecks, levelChecks, lifecycleChecks, levelsChecks, lifecyclesChecks};
 ghost use Rattle.checks.specs.PassedOver.{entryOf, entryChecks, PassedOver};
 ghost use Rattle.checks.specs.Refs.{refTo};

@@ -1,6 +1,6 @@
 -- Bytes are UTF-8 exactly when they are the encodings of allowed scalars: the proofs of specs/Rfc3629.antt. Assumes nothing.
 use Prim.Native.Nat.{ℕ, zero, suc, _+_, _*_, _/_, _%_, _<_, _≤_}
-use mathlib.Core.Bool.{Bool, true, false, _&&_, true≢false}
+use mathlib.Core.Bool.{true, false, _&&_, true≢false}
 use mathlib.Core.Path.{_≡_, refl, _∙_, ap, sym, subst}
 use mathlib.Core.List.{List, [], _∷_, _++_}
 use native.Mathlib.Nat.{zero-add}
@@ -10,10 +10,10 @@ use lib.ListN.{length, getD, drop, length-drop}
 use borrow.Author.Tests.{ltb-true, ltb-false, leb-true, lt-ltb, le-ltb, le-leb}
 use Rattle.identity.specs.declared.decode.Decoded.{Decoded}
 use Rattle.identity.specs.declared.decode.Decoded.the-variants.{Scalar, Malformed}
-use Rattle.identity.specs.Utf8.{allowed, allAllowed, encode, encodeAll, follows, checked, valueOfTwo, valueOfThree, valueOfFour, scalarAt}
+use Rattle.identity.specs.Utf8.{allowed, allAllowed, encode, encodeAll, follows, valueOfTwo, valueOfThree, valueOfFour, scalarAt}
 use Rattle.identity.specs.Utf8.{Scalars, some, none, before, decode, decodeAfter, isSome}
 use Rattle.identity.specs.Rfc3629.{Encodes, Utf8IsEncoding, DecodeInvertsEncode}
-use Rattle.identity.proofs.Tests.{cases, both, within-in}
+use Rattle.identity.proofs.Tests.{cases, both}
 use Rattle.identity.proofs.Scalar.{one-byte, by-two, by-three, by-four, checked-scalar, Follows, is-follow, no-byte}
 use Rattle.identity.proofs.Scalar.{Form, one, two, three, four, form-at, width-at, decode-at, decode-malformed}
 

@@ -6,7 +6,7 @@ use mathlib.Core.List.{List}
 use native.Mathlib.Omega.{arith}
 use lib.Dec.{leb, eqb}
 use lib.ListN.{length, getD}
-use borrow.Author.Tests.{ltb-true, ltb-false, leb-true, leb-false, le-leb, lt-leb, eq-eqb, ne-eqb, not-true}
+use borrow.Author.Tests.{ltb-true, ltb-false, leb-false, le-leb, lt-leb, eq-eqb, ne-eqb, not-true}
 use Rattle.identity.specs.declared.decode.Decoded.the-variants.{Scalar}
 use Rattle.identity.specs.Utf8.{allowed, follows, valueOfTwo, valueOfThree, valueOfFour, scalarAt}
 use Rattle.identity.specs.Unicode.{control}

@@ -1,5 +1,4 @@
 // Both checks for a host in another language: the answer as document 01's numbers, in eight numbers that the host lends.
-ghost use mathlib.Core.Path.{_≡_};
 ghost use Rattle.enclave.specs.Answer.{answerNumbers, enclaveAnswer};
 ghost use Rattle.federate.specs.Answer.{federateNumbers, federateAnswer};
 ghost use Rattle.image_check.specs.Answered.{Answered};

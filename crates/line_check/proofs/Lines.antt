@@ -14,7 +14,7 @@ use Rattle.line_check.specs.declared.files.FileRead.{FileRead}
 use Rattle.line_check.specs.declared.files.Files.{Files}
 use Rattle.line_check.specs.declared.files.Files.the-variants as files
 use Rattle.line_check.specs.Files.{isMissing, isTooLong, Within, together, Inside}
-use Rattle.line_check.specs.Line.{placesFrom, decimal, numbersText, line}
+use Rattle.line_check.specs.Line.{placesFrom, decimal, numbersText}
 
 -- after `a` bytes the part that begins with a text of n bytes
 pub put-text : (a n : ℕ) (out text rest post : List ℕ) {ys : List ℕ} → a ≤ length out → n ≡ length text → ys ≡ take (length text) text ++ rest → take (a + n) (take a out ++ (ys ++ post)) ≡ take a out ++ text

@@ -1,9 +1,9 @@
 -- The checks of list tables' entries, and of the ranges of rows that lead to them: view.rs, the loops after the parent walk. Assumes nothing.
 use Prim.Native.Nat.{_+_, _-_}
 use Prim.Native.Nat.{ℕ}
-use mathlib.Core.Bool.{Bool, true, false, not, _&&_}
+use mathlib.Core.Bool.{not}
 use mathlib.Core.List.{List, [], _∷_, _++_}
-use lib.Dec.{ltb, leb, eqb}
+use lib.Dec.{ltb, eqb}
 use Rattle.answers.specs.declared.Refusal.the-variants.{OwnershipMismatch, DuplicateEntry, EntriesNotSorted}
 use Rattle.answers.specs.Fields as field
 use Rattle.answers.specs.Checks.{Check, need, run}

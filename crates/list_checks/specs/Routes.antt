@@ -1,9 +1,9 @@
 -- The checks of routes and of required bindings: view.rs, the last two loops. Assumes nothing.
 use Prim.Native.Nat.{_+_, _-_}
 use Prim.Native.Nat.{ℕ}
-use mathlib.Core.Bool.{Bool, true, false, not, _&&_}
+use mathlib.Core.Bool.{not, _&&_}
 use mathlib.Core.List.{List, [], _∷_, _++_}
-use lib.Dec.{ltb, leb, eqb}
+use lib.Dec.{eqb}
 use Rattle.identity.specs.declared.IdentityPlace.{IdentityPlace}
 use Rattle.identity.specs.Order.{compared}
 use Rattle.answers.specs.declared.Refusal.the-variants.{StableIdsNotSorted, DuplicateRouteHalf, EntriesNotSorted}

@@ -1,9 +1,8 @@
 // The checks of the list tables of one index or one startup, and of the enabled modes of reactions.
-ghost use mathlib.Core.Path.{_≡_};
 ghost use mathlib.Core.List.{[], _∷_};
 ghost use Prim.Native.Nat.{_<_};
 ghost use Rattle.answers.specs.Checks.{run, Decides};
-ghost use Rattle.checks.specs.Image.{image, rowsOf, startOf, modesAt};
+ghost use Rattle.checks.specs.Image.{image, rowsOf, modesAt};
 ghost use Rattle.checks.specs.Refs.{refTo};
 ghost use Rattle.list_checks.specs.ListTables.{indexChecks, startupChecks, enabledModeChecks, enabledModesChecks, indexOrderChecks, shutdownActionChecks, indexesAt};
 ghost use Rattle.list_checks.specs.FirstPast.{firstWord, FirstPast};

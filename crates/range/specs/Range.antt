@@ -1,6 +1,6 @@
 -- Where a range or a span of `len` entries from `start` ends, and whether it holds a key (document 01, module 1). Assumes nothing.
 use Prim.Native.Nat.{ℕ, _+_, _-_, _^_}
-use mathlib.Core.Bool.{Bool, true, false, _&&_, cond}
+use mathlib.Core.Bool.{Bool, _&&_, cond}
 use lib.Dec.{ltb, leb}
 use Rattle.range.specs.declared.CheckedEnd.{CheckedEnd}
 use Rattle.range.specs.declared.CheckedEnd.the-variants.{End, NoEnd}

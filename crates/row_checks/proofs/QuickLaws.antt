@@ -1,10 +1,9 @@
 -- What the quick test of a range tells of its checks. Assumes nothing.
-use Prim.Native.Nat.{ℕ, _+_, _<_, _≤_, _^_}
+use Prim.Native.Nat.{ℕ, _+_, _<_, _^_}
 use mathlib.Core.Bool.{Bool, true, false, _&&_, true≢false}
-use mathlib.Core.Path.{_≡_, refl, sym, _∙_, ap}
-use mathlib.Core.List.{List}
+use mathlib.Core.Path.{_≡_, refl, sym}
 use native.Mathlib.Omega.{arith}
-use lib.Dec.{ltb, leb}
+use lib.Dec.{leb}
 use borrow.Author.Tests.{lt-ltb, le-leb}
 use Rattle.range.specs.declared.SliceRange.{SliceRange}
 use Rattle.range.specs.declared.CheckedEnd.the-variants.{End}

@@ -1,8 +1,7 @@
 -- The checks of a row of actions: view.rs, the second row loop. Assumes nothing.
 use Prim.Native.Nat.{ℕ}
-use mathlib.Core.Bool.{Bool, true, false, _&&_}
+use mathlib.Core.Bool.{Bool, true, false}
 use mathlib.Core.List.{List, [], _∷_, _++_}
-use lib.Dec.{ltb, eqb}
 use Rattle.answers.specs.declared.Refusal.the-variants.{BindingPresenceMismatch}
 use Rattle.answers.specs.Fields as field
 use Rattle.answers.specs.Checks.{Check, need}

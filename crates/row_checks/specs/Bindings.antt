@@ -1,8 +1,8 @@
 -- A row's required binding: it is there, and of the kind that the row wants. Assumes nothing.
 use Prim.Native.Nat.{ℕ}
-use mathlib.Core.Bool.{Bool, true, false, _&&_}
-use mathlib.Core.List.{List, [], _∷_, _++_}
-use lib.Dec.{ltb, eqb}
+use mathlib.Core.Bool.{Bool}
+use mathlib.Core.List.{List, [], _∷_}
+use lib.Dec.{eqb}
 use Rattle.answers.specs.declared.Refusal.the-variants.{BindingKindMismatch}
 use Rattle.answers.specs.Checks.{Check, need}
 use Rattle.schema.specs.declared.index.BindingKind.{BindingKind}

@@ -1,8 +1,8 @@
 -- The checks of a row of modes: view.rs, the fifth row loop. Assumes nothing.
 use Prim.Native.Nat.{ℕ}
-use mathlib.Core.Bool.{Bool, true, false, _&&_}
-use mathlib.Core.List.{List, [], _∷_, _++_}
-use lib.Dec.{ltb, eqb}
+use mathlib.Core.Bool.{Bool, false}
+use mathlib.Core.List.{List, [], _∷_}
+use lib.Dec.{eqb}
 use Rattle.range.specs.Range.{contains}
 use Rattle.answers.specs.declared.Refusal.the-variants.{OwnershipMismatch}
 use Rattle.answers.specs.Fields as field

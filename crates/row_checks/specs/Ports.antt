@@ -1,8 +1,6 @@
 -- The checks of a row of ports: view.rs, the third row loop. Assumes nothing.
 use Prim.Native.Nat.{ℕ}
-use mathlib.Core.Bool.{Bool, true, false, _&&_}
 use mathlib.Core.List.{List, [], _∷_, _++_}
-use lib.Dec.{ltb, eqb}
 use Rattle.answers.specs.Fields as field
 use Rattle.answers.specs.Checks.{Check}
 use Rattle.schema.specs.declared.index.BindingKind.the-variants.{Port}

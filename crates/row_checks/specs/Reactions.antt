@@ -1,8 +1,7 @@
 -- The checks of a row of reactions: view.rs, the fourth row loop. Assumes nothing.
 use Prim.Native.Nat.{ℕ}
-use mathlib.Core.Bool.{Bool, true, false, _&&_}
 use mathlib.Core.List.{List, [], _∷_, _++_}
-use lib.Dec.{ltb, eqb}
+use lib.Dec.{eqb}
 use Rattle.answers.specs.declared.Refusal.the-variants.{OwnershipMismatch}
 use Rattle.answers.specs.Fields as field
 use Rattle.answers.specs.Checks.{Check, need}

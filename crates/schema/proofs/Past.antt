@@ -6,7 +6,7 @@ use native.Mathlib.Omega.{arith}
 use lib.ListN.{length, getD, List·getD-eq-default}
 use Rattle.schema.specs.Number.{number}
 use Rattle.schema.specs.Layout.{Layout, bytes, offset, fieldAt}
-use Rattle.schema.specs.Rows.{byteOf, field, row, empty}
+use Rattle.schema.specs.Rows.{row, empty}
 
 pub byte-past : (p : List ℕ) (o : ℕ) → length p ≤ o → getD p o 0 ≡ 0
 byte-past p o h = List·getD-eq-default p 0 h

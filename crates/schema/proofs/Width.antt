@@ -1,6 +1,6 @@
 -- One byte more, over the width. Assumes nothing.
 use Prim.Native.Nat.{ℕ, zero, suc, _+_, _*_, _/_, _%_, _^_, _<_, _≤_}
-use mathlib.Core.Path.{_≡_, _∙_, ap, sym, refl}
+use mathlib.Core.Path.{_≡_, _∙_, ap, sym}
 use mathlib.Core.List.{List}
 use native.Mathlib.Nat.{pow-suc, add-zero, add-suc, mul-assoc, zero-mul, zero-add, pow-le-pow-right}
 use native.Mathlib.Numerals.{add-one}

@@ -4,7 +4,7 @@ ghost use mathlib.Core.List.{[]};
 ghost use Rattle.answers.specs.Checks.{Decides};
 ghost use Rattle.checks.specs.Image.{image, rowsOf, scopesAt};
 ghost use Prim.Native.Nat.{_<_};
-ghost use Rattle.checks.specs.Refs.{rangeEnd, rangeChecks};
+ghost use Rattle.checks.specs.Refs.{rangeChecks};
 ghost use Rattle.scope_checks.specs.Ends.{endsOf, noEnds, memberRangeChecks, reactionRangeChecks, scopeRangeChecks, Moves};
 ghost use Rattle.scope_checks.specs.Scopes.{scopeRowChecks};
 use answers::Outcome;

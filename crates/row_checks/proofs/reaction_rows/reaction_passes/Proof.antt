@@ -1,5 +1,5 @@
 -- `row_checks::reaction_rows::reaction_passes` meets its contract. Assumes nothing.
-use mathlib.Core.Path.{refl, sym}
+use mathlib.Core.Path.{refl}
 use borrow.Author.Tests.{not-false}
 use Rattle.answers.proofs.Laws.{skip}
 use Rattle.answers.proofs.Quick.{unsure, sure, surely}
