@@ -4,18 +4,18 @@ ghost use Rattle.packing.specs.Shape.{unpacked, shapeOf};
 
 // The bytes of a record that a presence bit governs: `len` of them from `offset`.
 pub struct Governed {
-    pub offset: u8,
     pub len: u8,
+    pub offset: u8,
 }
 
-// The largest byte 1 and byte 2, how many bytes are used, how many identities there are, and what bits 0 and 1 of byte 1 govern.
+// What bits 1 and 0 of byte 1 govern, how many identities there are, how many bytes are used, and the largest byte 2 and byte 1: in the order of a shape number's bytes, the lowest first, so that to unpack one is to store it.
 pub struct Shape {
-    pub bits: u8,
-    pub kinds: u8,
-    pub used: u8,
-    pub identities: u8,
-    pub bit_0: Governed,
     pub bit_1: Governed,
+    pub bit_0: Governed,
+    pub identities: u8,
+    pub used: u8,
+    pub kinds: u8,
+    pub bits: u8,
 }
 
 pub const TABLES: usize = 25;
