@@ -223,9 +223,6 @@ fn block_ahead(text: &[u8], at: usize) -> bool
     requires { ⌜ at < length (now text) ⌝ }
     ensures { λ r. ⌜ (r ≡ true → 3 ≤ at) ⌝ }
 {
-    if text.len() < 20 {
-        return false;
-    }
     (3 <= at) & (16 < text.len() - at)
 }
 

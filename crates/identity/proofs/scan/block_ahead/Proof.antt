@@ -4,7 +4,7 @@ use lib.Dec.{ltb, leb}
 use lib.ListN.{length}
 use borrow.Author.Needs.{needs}
 use borrow.Author.Tests.{leb-true}
-use Rattle.identity.proofs.Tests.{failed, both}
+use Rattle.identity.proofs.Tests.{both}
 use Rattle.identity.proofs.scan.block_ahead.Statement.{statement}
 use Rattle.identity.proofs.scan.block_ahead.Tie as tie
 
@@ -12,6 +12,5 @@ pub block-ahead-spec : {M : Type 1} → statement M
 block-ahead-spec =
     tie.close
     (tie.spec
-    (λ c. failed)
     (λ c. search needs)
-    (λ c e. leb-true 3 _ (both (leb 3 (c .before .args .at)) (ltb 16 (length (c .before .args .text .now) - c .before .args .at)) e .0)))
+    (λ c e. leb-true 3 _ (both (leb 3 (c .args .at)) (ltb 16 (length (c .args .text .now) - c .args .at)) e .0)))
