@@ -178,7 +178,7 @@ pub fn check_action(s: &TableStarts, table: u8, index: u32, action: ActionIndex)
     Outcome::Passed
 }
 
-// Whether an entry, read as one number, names a reaction that is there and has the entry's level.
+// Whether an entry, read as one number, names a reaction that is there and has the entry's level. A record past the pack is left to the full check, here and below, so that the loops call nothing to read one.
 fn has_level(p: &[u8], s: &TableStarts, pair: u64) -> bool
     ensures { λ r. ⌜ ((t i : ℕ) → PassesIf (levelRefChecks (rowsOf (now (s .entry))) (reactionsAt (now (p .entry)) (now (s .entry))) t i (entryOf pair)) r) ⌝ }
 {
@@ -187,6 +187,9 @@ fn has_level(p: &[u8], s: &TableStarts, pair: u64) -> bool
         return false;
     }
     let n = crate::refs::row_number(s, ReactionImage::TABLE, reaction);
+    if p.len() / 64 <= n {
+        return false;
+    }
     parts::reaction_level_at(p, n) == number::high(pair)
 }
 
@@ -213,7 +216,11 @@ fn levels_past(p: &[u8], s: &TableStarts, table: u8, start: u32, len: u32) -> u3
     let mut k = 0;
     let mut before = 0;
     while k < len {
-        let pair = parts::words_at(p, crate::refs::row_in(first, start, k), 4);
+        let n = crate::refs::row_in(first, start, k);
+        if p.len() / 64 <= n {
+            return k;
+        }
+        let pair = parts::words_at(p, n, 4);
         if !level_passes(p, s, k, before, pair) {
             return k;
         }
@@ -284,6 +291,9 @@ fn lifecycles_past(p: &[u8], s: &TableStarts, table: u8, start: u32, len: u32) -
     let mut before = 0;
     while k < len {
         let n = crate::refs::row_in(first, start, k);
+        if p.len() / 64 <= n {
+            return k;
+        }
         let action = parts::lifecycle_action_at(p, n);
         if crate::refs::rows_of(s, ActionImage::TABLE) <= action.0 {
             return k;

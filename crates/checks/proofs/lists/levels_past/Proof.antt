@@ -23,11 +23,12 @@ levels-past-spec =
     (λ c. search needs)
     (λ c. passing-start)
     (λ c κs. search needs)
+    (λ c. c .before .before .before .loop .inv .over)
     (λ c κs. search needs)
     (λ c κs. search needs)
-    (λ c. c .before .before .before .before .before .loop .inv .over)
+    (λ c. c .before .before .before .before .before .before .loop .inv .over)
     (λ c. omega arith)
     (λ c. omega arith)
-    (λ c. let a = c .before .before .before .before .before .before .before .before .args in
-    level-step (now (a .p)) (now (a .s)) (a .table) (a .start) (a .len) (c .before .before .before .before .before .loop .inv) (c .before .before .before .before .loop-test .taken) (c .before .before .before .row-in .ensures) (c .before .before .words-at .ensures) (c .before .level-passes .ensures) (c .if1 .left))
+    (λ c. let a = c .before .before .before .before .before .before .before .before .before .args in
+    level-step (now (a .p)) (now (a .s)) (a .table) (a .start) (a .len) (c .before .before .before .before .before .before .loop .inv) (c .before .before .before .before .before .loop-test .taken) (c .before .before .before .before .row-in .ensures) (c .before .before .words-at .ensures) (c .before .level-passes .ensures) (c .if2 .left))
     (λ c. c .before .loop .inv .over))
