@@ -28,11 +28,15 @@ fn check_action_triggers(p: &[u8], s: &TableStarts, i: u32) -> Outcome
     lists::validate_levels(p, s, ReactionTrigger::TABLE, range.start, range.len)
 }
 
-// The same as a quick test, whose answer stays in a register.
+// The same as a quick test, whose answer stays in a register; a record past the pack is left to the full check.
 fn action_triggers_pass(p: &[u8], s: &TableStarts, i: u32) -> bool
     ensures { λ r. ⌜ PassesIf (actionTriggerChecks (image (now (p .entry)) [] [] (now (s .entry)) 0) i) r ⌝ }
 {
-    let range = parts::action_triggers_at(p, refs::row_number(s, ActionImage::TABLE, i));
+    let n = refs::row_number(s, ActionImage::TABLE, i);
+    if p.len() / 64 <= n {
+        return false;
+    }
+    let range = parts::action_triggers_at(p, n);
     lists::levels_pass(p, s, ReactionTrigger::TABLE, range.start, range.len)
 }
 
@@ -63,11 +67,15 @@ fn check_port_triggers(p: &[u8], s: &TableStarts, i: u32) -> Outcome
     lists::validate_levels(p, s, ReactionTrigger::TABLE, range.start, range.len)
 }
 
-// The same as a quick test, whose answer stays in a register.
+// The same as a quick test, whose answer stays in a register; a record past the pack is left to the full check.
 fn port_triggers_pass(p: &[u8], s: &TableStarts, i: u32) -> bool
     ensures { λ r. ⌜ PassesIf (portTriggerChecks (image (now (p .entry)) [] [] (now (s .entry)) 0) i) r ⌝ }
 {
-    let range = parts::port_triggers_at(p, refs::row_number(s, PortImage::TABLE, i));
+    let n = refs::row_number(s, PortImage::TABLE, i);
+    if p.len() / 64 <= n {
+        return false;
+    }
+    let range = parts::port_triggers_at(p, n);
     lists::levels_pass(p, s, ReactionTrigger::TABLE, range.start, range.len)
 }
 

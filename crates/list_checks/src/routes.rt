@@ -119,7 +119,7 @@ fn check_route<'a>(
     crate::list_tables::check_port(s, RouteImage::TABLE, i, field::LOCAL_PORT, route.local_port)
 }
 
-// A quick test of a route: its boundary is valid and above the one before, and its port is there.
+// A quick test of a route: its boundary is valid and above the one before, and its port is there. A record past the pack is left to the full check.
 fn route_passes<'a>(
     p: &'a [u8],
     batch: &'a [u8],
@@ -130,6 +130,9 @@ fn route_passes<'a>(
     ensures { λ r. ⌜ PassesIf (routeChecks (image (now (p .entry)) (now (batch .entry)) (now (house .entry)) (now (s .entry)) 0) i) r ⌝ }
 {
     let n = refs::row_number(s, RouteImage::TABLE, i);
+    if p.len() / 64 <= n {
+        return false;
+    }
     let id = parts::route_boundary_at(p, n);
     if !identity::scan::valid_id(identity::place::identity_text(batch, house, id)) {
         return false;

@@ -53,10 +53,17 @@ fn owner_passes(p: &[u8], s: &TableStarts, i: u32) -> bool
         return false;
     }
     let b = refs::row_number(s, RequiredBindingImage::TABLE, binding.0);
+    if p.len() / 64 <= b {
+        return false;
+    }
     if !same_kind(parts::binding_kind_at(p, b), BindingKind::Reaction) {
         return false;
     }
-    let owner = parts::scope_reactor_at(p, refs::row_number(s, ScopeImage::TABLE, scope.0));
+    let c = refs::row_number(s, ScopeImage::TABLE, scope.0);
+    if p.len() / 64 <= c {
+        return false;
+    }
+    let owner = parts::scope_reactor_at(p, c);
     owner.0 == reactor.0
 }
 
@@ -74,7 +81,11 @@ fn effect_passes(p: &[u8], s: &TableStarts, i: u32) -> bool
         return false;
     }
     let reactor = parts::reaction_reactor_at(p, n);
-    let owner = parts::mode_reactor_at(p, refs::row_number(s, ModeImage::TABLE, target.0));
+    let m = refs::row_number(s, ModeImage::TABLE, target.0);
+    if p.len() / 64 <= m {
+        return false;
+    }
+    let owner = parts::mode_reactor_at(p, m);
     owner.0 == reactor.0
 }
 

@@ -9,10 +9,10 @@ use Rattle.row_checks.proofs.reaction_rows.effect_passes.Tie as tie
 returns : tie.Need-returns
 returns c = rw (← c .before .before .before .row-number .ensures, ← c .before .before .reaction-mode-effect-at .ensures, c .enum-told .given .1) (sure (λ e. none))
 
-returns-3 : tie.Need-returns-3
-returns-3 c =
-    rw (← c .before .before .before .before .before .before .before .before .before .before .before .before .before .row-number .ensures, ← c .before .before .before .before .before .before .before .before .before .before .before .before .reaction-mode-effect-at .ensures, c .before .before .before .before .before .before .before .before .before .before .effect .given .1, ← c .before .before .before .before .before .before .before .rows-of .ensures, ← c .before .before .before .before .reaction-reactor-at .ensures, ← c .before .before .before .row-number2 .ensures, ← c .before .before .mode-reactor-at .ensures)
-    (sure (λ e. pass (lt-ltb _ _ (c .before .before .before .before .before .if1 .left)) (pass e none)))
+returns-4 : tie.Need-returns-4
+returns-4 c =
+    rw (← c .before .before .before .before .before .before .before .before .before .before .before .before .before .before .row-number .ensures, ← c .before .before .before .before .before .before .before .before .before .before .before .before .before .reaction-mode-effect-at .ensures, c .before .before .before .before .before .before .before .before .before .before .before .effect .given .1, ← c .before .before .before .before .before .before .before .before .rows-of .ensures, ← c .before .before .before .before .before .reaction-reactor-at .ensures, ← c .before .before .before .before .row-number2 .ensures, ← c .before .before .mode-reactor-at .ensures)
+    (sure (λ e. pass (lt-ltb _ _ (c .before .before .before .before .before .before .if1 .left)) (pass e none)))
 
 pub effect-passes-spec : {M : Type 1} → statement M
 effect-passes-spec =
@@ -27,5 +27,6 @@ effect-passes-spec =
     (λ c. unsure)
     (λ c κs. search needs)
     (λ c κs. search needs)
+    (λ c. unsure)
     (λ c κs. search needs)
-    returns-3)
+    returns-4)

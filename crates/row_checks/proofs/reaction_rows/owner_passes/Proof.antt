@@ -7,14 +7,14 @@ use borrow.Author.Needs.{needs}
 use Rattle.row_checks.proofs.reaction_rows.owner_passes.Statement.{statement}
 use Rattle.row_checks.proofs.reaction_rows.owner_passes.Tie as tie
 
-returns-5 : tie.Need-returns-5
-returns-5 c =
-    rw (← c .before .before .before .before .before .before .before .before .before .before .before .before .before .before .before .before .before .before .before .before .row-number .ensures, ← c .before .before .before .before .before .before .before .before .before .before .before .before .before .before .before .before .before .before .before .reaction-reactor-at .ensures, ← c .before .before .before .before .before .before .before .before .before .before .before .before .before .before .before .before .before .before .rows-of .ensures, ← c .before .before .before .before .before .before .before .before .before .before .before .before .before .before .before .reaction-scope-at .ensures, ← c .before .before .before .before .before .before .before .before .before .before .before .before .before .before .rows-of2 .ensures, ← c .before .before .before .before .before .before .before .before .before .before .before .reaction-binding-at .ensures, ← c .before .before .before .before .before .before .before .before .before .before .rows-of3 .ensures, ← c .before .before .before .before .before .before .before .row-number2 .ensures, ← c .before .before .before .before .before .before .binding-kind-at .ensures, ← c .before .before .before .row-number3 .ensures, ← c .before .before .scope-reactor-at .ensures)
+returns-7 : tie.Need-returns-7
+returns-7 c =
+    rw (← c .before .before .before .before .before .before .before .before .before .before .before .before .before .before .before .before .before .before .before .before .before .before .row-number .ensures, ← c .before .before .before .before .before .before .before .before .before .before .before .before .before .before .before .before .before .before .before .before .before .reaction-reactor-at .ensures, ← c .before .before .before .before .before .before .before .before .before .before .before .before .before .before .before .before .before .before .before .before .rows-of .ensures, ← c .before .before .before .before .before .before .before .before .before .before .before .before .before .before .before .before .before .reaction-scope-at .ensures, ← c .before .before .before .before .before .before .before .before .before .before .before .before .before .before .before .before .rows-of2 .ensures, ← c .before .before .before .before .before .before .before .before .before .before .before .before .before .reaction-binding-at .ensures, ← c .before .before .before .before .before .before .before .before .before .before .before .before .rows-of3 .ensures, ← c .before .before .before .before .before .before .before .before .before .row-number2 .ensures, ← c .before .before .before .before .before .before .before .binding-kind-at .ensures, ← c .before .before .before .before .row-number3 .ensures, ← c .before .before .scope-reactor-at .ensures)
     (sure (λ e.
-    pass (lt-ltb _ _ (c .before .before .before .before .before .before .before .before .before .before .before .before .before .before .before .before .if1 .left))
-    (pass (lt-ltb _ _ (c .before .before .before .before .before .before .before .before .before .before .before .before .if2 .left))
-    (pass (lt-ltb _ _ (c .before .before .before .before .before .before .before .before .if3 .left))
-    (pass (sym (c .before .before .before .before .before .same-kind .ensures) ∙ not-false _ (c .before .before .before .before .if4 .left))
+    pass (lt-ltb _ _ (c .before .before .before .before .before .before .before .before .before .before .before .before .before .before .before .before .before .before .if1 .left))
+    (pass (lt-ltb _ _ (c .before .before .before .before .before .before .before .before .before .before .before .before .before .before .if2 .left))
+    (pass (lt-ltb _ _ (c .before .before .before .before .before .before .before .before .before .before .if3 .left))
+    (pass (sym (c .before .before .before .before .before .before .same-kind .ensures) ∙ not-false _ (c .before .before .before .before .before .if5 .left))
     (pass e none))))))
 
 pub owner-passes-spec : {M : Type 1} → statement M
@@ -32,9 +32,11 @@ owner-passes-spec =
     (λ c κs. search needs)
     (λ c. unsure)
     (λ c κs. search needs)
+    (λ c. unsure)
     (λ c κs. search needs)
     (λ c κs. search needs)
     (λ c. unsure)
     (λ c κs. search needs)
+    (λ c. unsure)
     (λ c κs. search needs)
-    returns-5)
+    returns-7)
