@@ -56,20 +56,20 @@ lifecycle-read : {p : List ℕ} {m n x : ℕ} → m ≡ n → Words p (m * 64 + 
 unfolding lifecycleAt
 lifecycle-read e w = rw (← e) (simp (w .first, second-at _ 4 w))
 
--- the first k items pass, and `before` is the number of the entry before k
-pub record Passing (f : ℕ → List Check) (entries : ℕ → LevelReactionImage) (n k before : ℕ) : Type 0 where
+-- the first k items pass, and `before` is read as the entry before k
+pub record Passing {A B : Type 0} (f : ℕ → List Check) (entries : ℕ → A) (read : B → A) (n k : ℕ) (before : B) : Type 0 where
   pub over : PassedOver f n k
-  pub last : (k ≡ 0 → ⊥) → entryOf before ≡ entries (k - 1)
+  pub last : (k ≡ 0 → ⊥) → read before ≡ entries (k - 1)
 
-pub passing-start : {f : ℕ → List Check} {entries : ℕ → LevelReactionImage} {n before : ℕ} → Passing f entries n 0 before
-passing-start {f} =
+pub passing-start : {A B : Type 0} {f : ℕ → List Check} {entries : ℕ → A} {read : B → A} {n : ℕ} {before : B} → Passing f entries read n 0 before
+passing-start {f = f} =
     record {
       over = record { within = omega arith; passed = below-none (λ j. first (f j) ≡ Passed) };
       last = λ h. absurd (h refl);
     }
 
-passing-step : {f : ℕ → List Check} {entries : ℕ → LevelReactionImage} {n k before pair : ℕ} → Passing f entries n k before → k < n → Decides (f k) Passed → entryOf pair ≡ entries k → Passing f entries n (k + 1) pair
-passing-step {f} {entries} {n} {k} x l d h =
+pub passing-step : {A B : Type 0} {f : ℕ → List Check} {entries : ℕ → A} {read : B → A} {n k : ℕ} {before here : B} → Passing f entries read n k before → k < n → Decides (f k) Passed → read here ≡ entries k → Passing f entries read n (k + 1) here
+passing-step {f = f} {k = k} x l d h =
     let same : k + 1 - 1 ≡ k = omega arith in
     record {
       over = record { within = omega arith; passed = below-more (λ j. first (f j) ≡ Passed) k (x .over .passed) (sym (decide d)) };
@@ -87,11 +87,11 @@ same-entries rows reactions t i (suc k) h g =
 module _ (p s : List ℕ) (t start n : ℕ) where
   abbrev pub LevelsPassing : ℕ → ℕ → Type 0
   LevelsPassing k before =
-      Passing (levelChecks (rowsOf s) (reactionsAt p s) (levelsAt p s) t start) (λ j. levelsAt p s t (start + j)) n k before
+      Passing (levelChecks (rowsOf s) (reactionsAt p s) (levelsAt p s) t start) (λ j. levelsAt p s t (start + j)) entryOf n k before
 
   abbrev pub LifecyclesPassing : ℕ → ℕ → Type 0
   LifecyclesPassing k before =
-      Passing (lifecycleChecks (rowsOf s) (reactionsAt p s) (lifecyclesAt p s) t start) (λ j. lifecyclesAt p s t (start + j) .reaction) n k before
+      Passing (lifecycleChecks (rowsOf s) (reactionsAt p s) (lifecyclesAt p s) t start) (λ j. lifecyclesAt p s t (start + j) .reaction) entryOf n k before
 
   abbrev pub PairPasses : ℕ → ℕ → ℕ → Bool → Type 0
   PairPasses k before pair b = (u i : ℕ) → PassesIf (entryChecks (rowsOf s) (reactionsAt p s) u i k (entryOf before) (entryOf pair)) b

@@ -216,11 +216,11 @@ fn levels_past(p: &[u8], s: &TableStarts, table: u8, start: u32, len: u32) -> u3
     let mut k = 0;
     let mut before = 0;
     while k < len {
-        let n = crate::refs::row_in(first, start, k);
-        if p.len() / 64 <= n {
+        let row = crate::refs::row_in(first, start, k);
+        if p.len() / 64 <= row {
             return k;
         }
-        let pair = parts::words_at(p, n, 4);
+        let pair = parts::words_at(p, row, 4);
         if !level_passes(p, s, k, before, pair) {
             return k;
         }

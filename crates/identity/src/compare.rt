@@ -99,8 +99,8 @@ fn rest_above<'a>(left: &'a [u8], right: &'a [u8]) -> bool
     }
 }
 
-// The same, by the first four bytes where they differ. Not by `compare_bytes`, whose answer goes through memory.
-fn bytes_above<'a>(left: &'a [u8], right: &'a [u8]) -> bool
+// The same for texts at hand, by the first four bytes where they differ. Not by `compare_bytes`, whose answer goes through memory.
+pub fn bytes_above<'a>(left: &'a [u8], right: &'a [u8]) -> bool
     ensures { λ r. ⌜ r ≡ isGreater (compared (now (left .entry)) (now (right .entry))) ⌝ }
 {
     if (4 <= left.len()) & (4 <= right.len()) {

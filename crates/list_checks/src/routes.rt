@@ -6,6 +6,7 @@ ghost use Rattle.answers.specs.PassesIf.{PassesIf};
 ghost use Rattle.checks.specs.Image.{image, rowsOf};
 ghost use Prim.Native.Nat.{_-_};
 ghost use Rattle.checks.specs.Lists.{afterFirst};
+ghost use Rattle.checks.specs.PassedOver.{PassedOver};
 ghost use Rattle.list_checks.specs.Routes.{directionNumber, sameBoundaryChecks, routeOrderChecks, routesAt, routeChecks, bindingIdChecks};
 use answers::Outcome;
 use answers::Refusal;
@@ -197,30 +198,37 @@ fn check_binding_id<'a>(
     identities::validate_id_order(batch, house, kind::BINDING, i, id, before.id)
 }
 
-// A quick test of a required binding: its identity is valid and above the one before.
-fn binding_passes<'a>(
+// How many of the first `rows` bindings are seen to pass, from the first on: each identity is valid and above the one before, whose text is kept. A record past the pack is left to the full check.
+fn bindings_past<'a>(
     p: &'a [u8],
     batch: &'a [u8],
     house: &'a [u8],
     s: &'a TableStarts,
-    i: u32,
-) -> bool
-    ensures { λ r. ⌜ PassesIf (bindingIdChecks (image (now (p .entry)) (now (batch .entry)) (now (house .entry)) (now (s .entry)) 0) i) r ⌝ }
+    rows: u32,
+) -> u32
+    ensures { λ r. ⌜ PassedOver (bindingIdChecks (image (now (p .entry)) (now (batch .entry)) (now (house .entry)) (now (s .entry)) 0)) rows r ⌝ }
 {
-    let n = refs::row_number(s, RequiredBindingImage::TABLE, i);
-    let id = parts::binding_id_at(p, n);
-    if !identity::scan::valid_id(identity::place::identity_text(batch, house, id)) {
-        return false;
+    let mut i: u32 = 0;
+    let mut before: &'a [u8] = &batch[..0];
+    while i < rows {
+        let n = refs::row_number(s, RequiredBindingImage::TABLE, i);
+        if p.len() / 64 <= n {
+            return i;
+        }
+        let text = identity::place::identity_text(batch, house, parts::binding_id_at(p, n));
+        if !identity::scan::valid_id(text) {
+            return i;
+        }
+        if !identity::compare::bytes_above(text, before) {
+            return i;
+        }
+        before = text;
+        i += 1;
     }
-    if i == 0 {
-        return true;
-    }
-    let m = refs::row_number(s, RequiredBindingImage::TABLE, i - 1);
-    let before = parts::binding_id_at(p, m);
-    identity::compare::above(batch, house, id, before)
+    i
 }
 
-// Every required binding.
+// Every required binding. Those not seen to pass at once are checked one by one, for the refusal.
 pub fn check_binding_ids<'a>(
     p: &'a [u8],
     batch: &'a [u8],
@@ -230,16 +238,13 @@ pub fn check_binding_ids<'a>(
     ensures { λ r. ⌜ Decides (run (bindingIdChecks (image (now (p .entry)) (now (batch .entry)) (now (house .entry)) (now (s .entry)) 0)) 0 (rowsOf (now (s .entry)) 24)) r ⌝ }
 {
     let rows = refs::rows_of(s, RequiredBindingImage::TABLE);
-    let mut i = 0;
+    let mut i = bindings_past(p, batch, house, s, rows);
     while i < rows {
-        let next = i + 1;
-        if !binding_passes(p, batch, house, s, i) {
-            let a = check_binding_id(p, batch, house, s, i);
-            let Outcome::Passed = a else {
-                return a;
-            };
-        }
-        i = next;
+        let a = check_binding_id(p, batch, house, s, i);
+        let Outcome::Passed = a else {
+            return a;
+        };
+        i += 1;
     }
     Outcome::Passed
 }

@@ -2,6 +2,7 @@
 use Prim.Native.Nat.{_-_}
 use native.Mathlib.Omega.{arith}
 use Rattle.answers.proofs.Loops.{Remaining, loop-laws}
+use Rattle.checks.proofs.PassedLaws.{passed-over}
 use Rattle.checks.specs.Image.{image}
 use Rattle.list_checks.specs.Routes.{bindingIdChecks}
 use borrow.Author.Needs.{needs}
@@ -21,15 +22,13 @@ check-binding-ids-spec =
     Inv-loop
     μ-loop
     (λ c κs. search needs)
-    (λ c. search loop-laws)
-    (λ c. omega arith)
     (λ c κs. search needs)
+    (λ c. search passed-over)
     (λ c κs. search needs)
     (λ c. search needs)
     (λ c. search needs)
     (λ c. search loop-laws)
     (λ c. omega arith)
-    (λ c. search loop-laws)
     (λ c. omega arith)
     (λ c. search loop-laws)
     (λ c. search loop-laws))
