@@ -1,19 +1,22 @@
 -- Runs of clean records of one table. Assumes nothing.
-use Prim.Native.Nat.{ℕ, _+_, _*_, _<_, _≤_}
+use Prim.Native.Nat.{ℕ, _+_, _*_, _-_, _<_, _≤_}
 use mathlib.Core.Bool.{true, false, _&&_, and-true, or-true}
 use mathlib.Core.Path.{_≡_, _∙_, ap, sym}
 use mathlib.Core.List.{List}
 use native.Mathlib.Omega.{arith}
 use lib.Dec.{leb, eqb}
 use lib.ListN.{getD}
-use borrow.Author.Tests.{leb-true, eqb-true, ne-eqb}
+use borrow.Author.Tests.{leb-true, eqb-true, ne-eqb, le-leb}
 use Rattle.schema.specs.Layout.{Layout, layouts}
+use Rattle.schema.specs.Number.{number}
 use Rattle.schema.specs.Rows.{byteOf}
+use Rattle.schema.proofs.Width.{number-four}
 use Rattle.packing.specs.declared.shape.Shape.{Shape}
 use Rattle.packing.specs.Shape.{layoutOf, governedBytes, shape, shapeOf}
 use Rattle.packing.specs.Clean.{zeros, cleanBy, clean}
 use Rattle.packing.specs.Runs.{PlainShape, plainFrom, CleanRun}
 use Rattle.packing.proofs.Tests.{both, and-next}
+use Rattle.packing.proofs.Zeros.{zeros-tail}
 use Rattle.packing.proofs.Records.{table-at}
 
 -- none
@@ -77,3 +80,22 @@ plain-clean p {s} t n i f e =
     let x : eqb t 3 ≡ false = other-table 0 t 3 g (λ z. omega arith) in
     let y : eqb t 5 ≡ false = other-table 1 t 5 h (λ z. omega arith) in
     rw (table-at p n, e, x, y, i) (sym (and-true _ ∙ plain-by (layoutOf t) p n g h))
+
+-- four bytes whose number is t in the first of them
+bare-head : (p : List ℕ) (t o : ℕ) → ((i : ℕ) → getD p i 0 < 256) → number 4 p o ≡ t * 16777216 → (getD p o 0 ≡ t) × ((getD p (o + 1) 0 ≡ 0) × ((getD p (o + 2) 0 ≡ 0) × (getD p (o + 3) 0 ≡ 0)))
+bare-head p t o f e =
+    let a = f o in
+    let b = f (o + 1) in
+    let d = f (o + 2) in
+    let g = f (o + 3) in
+    let h = number-four p o ∙ e in
+    (omega arith, (omega arith, (omega arith, omega arith)))
+
+-- a record of a table whose shape is plain, with no bits, kind or bytes past its fields
+pub bare-clean : (p : List ℕ) {s : Shape} (t n : ℕ) → ((i : ℕ) → getD p i 0 < 256) → s ≡ shapeOf t → PlainShape s → number 4 p (n * 64) ≡ t * 16777216 → zeros p (n * 64 + s .used) 32 && zeros p (n * 64 + 32) 32 ≡ true → (getD p (n * 64) 0 ≡ t) × (clean p n ≡ true)
+bare-clean p {s} t n f i g e z =
+    let h = bare-head p t (n * 64) f e in
+    let l = g .half in
+    let y : zeros p (n * 64 + s .used) (64 - s .used) ≡ true = sym (zeros-tail p (n * 64) (s .used) 32 (omega arith) (omega arith)) ∙ z in
+    let x : plainFrom s p (n * 64) ≡ true = rw (h .1 .0, h .1 .1 .0, h .1 .1 .1, y, le-leb 0 (s .bits) (omega arith), le-leb 0 (s .kinds) (omega arith)) in
+    (h .0, sym (plain-clean p t n i g (h .0)) ∙ x)

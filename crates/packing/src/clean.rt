@@ -145,12 +145,31 @@ fn is_plain(p: &[u8], start: usize, shape: Shape) -> bool
     zeros_32(p, start + wide(shape.used)) & zeros_32(p, start + 32)
 }
 
+// How far from n on the records are of `table`, with nothing in bytes 1 to 3 or past the last field: told by one number, and clean by any plain shape.
+fn past_bare(p: &[u8], n: usize, table: u8, shape: Shape, limit: usize) -> usize
+    requires { ⌜ (n ≤ limit) × ((limit ≤ length (now p) / 64) × ((shape ≡ shapeOf table) × PlainShape shape)) ⌝ }
+    ensures { λ r. ⌜ (r ≤ limit) × CleanRun (now (p .entry)) table n r r ⌝ }
+{
+    let head = (table as u32) * 0x100_0000;
+    let mut next = n;
+    while next < limit {
+        if word_inside(p, next * 64) != head {
+            return next;
+        }
+        if !(zeros_32(p, next * 64 + wide(shape.used)) & zeros_32(p, next * 64 + 32)) {
+            return next;
+        }
+        next += 1;
+    }
+    next
+}
+
 // The first record from n on that is not of `table` or not clean, or the limit: by a shape that governs no field, and by any.
 fn past_plain(p: &[u8], n: usize, table: u8, shape: Shape, limit: usize) -> usize
     requires { ⌜ (n ≤ limit) × ((limit ≤ length (now p) / 64) × ((shape ≡ shapeOf table) × PlainShape shape)) ⌝ }
     ensures { λ r. ⌜ CleanRun (now (p .entry)) table n limit r ⌝ }
 {
-    let mut next = n;
+    let mut next = past_bare(p, n, table, shape, limit);
     while next < limit {
         if p[next * 64] != table {
             return next;
