@@ -1,11 +1,12 @@
 -- Laws of `isPassed` and `PassesIf`. Assumes nothing.
-use mathlib.Core.Bool.{Bool, true, false, true≢false}
-use mathlib.Core.Path.{_≡_, refl, sym}
-use mathlib.Core.List.{List}
+use mathlib.Core.Bool.{Bool, true, false, not, true≢false}
+use mathlib.Core.Path.{_≡_, refl, sym, _∙_}
+use mathlib.Core.List.{List, _++_}
 use Rattle.answers.specs.declared.Outcome.{Outcome}
 use Rattle.answers.specs.declared.Outcome.the-variants.{Passed, Refused}
 use Rattle.answers.specs.Checks.{Check, first, Decides}
 use Rattle.answers.specs.PassesIf.{isPassed, PassesIf}
+use Rattle.answers.proofs.Laws.{stop}
 
 -- nothing is said
 pub unsure : {cs : List Check} → PassesIf cs false
@@ -32,3 +33,11 @@ is-passed (Refused r) e = absurd (true≢false e)
 
 pub exactly : {cs : List Check} {b : Bool} → b ≡ isPassed (first cs) → PassesIf cs b
 exactly {cs} e = record { passes = λ t. is-passed (first cs) (rw t at e) }
+
+-- where it tells that they do not pass, what follows them does not count
+pub stopped : {cs : List Check} {o : Outcome} {b : Bool} (ds : List Check) → Decides cs o → b ≡ isPassed (first cs) → not b ≡ true → Decides (cs ++ ds) o
+unfolding isPassed
+stopped {o = Passed} {b} ds d e n =
+    let h : b ≡ true = e ∙ rw (← d .is) in
+    absurd (true≢false (sym n ∙ rw h))
+stopped {o = Refused r} ds d e n = stop ds d refl

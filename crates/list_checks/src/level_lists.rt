@@ -104,14 +104,13 @@ fn check_scope_lists(p: &[u8], s: &TableStarts, i: u32) -> Outcome
 {
     let n = refs::row_number(s, ScopeImage::TABLE, i);
     let reset = parts::scope_reset_reactions_at(p, n);
-    let a = lists::validate_levels(p, s, ScopeResetReaction::TABLE, reset.start, reset.len);
+    if !lists::levels_pass(p, s, ScopeResetReaction::TABLE, reset.start, reset.len) {
+        return lists::validate_levels(p, s, ScopeResetReaction::TABLE, reset.start, reset.len);
+    }
+    let up = parts::scope_startup_reactions_at(p, n);
+    let a = lists::validate_lifecycle(p, s, ScopeStartupReaction::TABLE, up.start, up.len);
     let Outcome::Passed = a else {
         return a;
-    };
-    let up = parts::scope_startup_reactions_at(p, n);
-    let b = lists::validate_lifecycle(p, s, ScopeStartupReaction::TABLE, up.start, up.len);
-    let Outcome::Passed = b else {
-        return b;
     };
     let down = parts::scope_shutdown_reactions_at(p, n);
     lists::validate_lifecycle(p, s, ScopeShutdownReaction::TABLE, down.start, down.len)

@@ -109,16 +109,6 @@ pub fn range_of(p: &[u8], n: usize, j: usize) -> SliceRange
     }
 }
 
-fn span_of(p: &[u8], n: usize, j: usize) -> IndexSpan
-    requires { ⌜ (n ≤ length (now p) / 64) × (j < 56) ⌝ }
-    ensures { λ r. ⌜ r ≡ record { start = number 8 (now (p .entry)) (n * 64 + j); len = number 8 (now (p .entry)) (n * 64 + (j + 8)) } ⌝ }
-{
-    IndexSpan {
-        start: long_of(p, n, j),
-        len: long_of(p, n, j + 8),
-    }
-}
-
 fn place_of(house: bool, p: &[u8], n: usize, j: usize) -> IdentityPlace
     requires { ⌜ (n ≤ length (now p) / 64) × (j < 60) ⌝ }
     ensures { λ r. ⌜ r ≡ record { house = house; start = number 4 (now (p .entry)) (n * 64 + j); len = number 4 (now (p .entry)) (n * 64 + (j + 4)) } ⌝ }
@@ -257,7 +247,10 @@ pub fn federate_at(p: &[u8], n: usize) -> FederateImage
         id: place_of(bit(bits, 1), p, n, 4),
         target: place_of(bit(bits, 2), p, n, 12),
         runtime: place_of(bit(bits, 4), p, n, 20),
-        enclaves: EnclaveSpan(span_of(p, n, 28)),
+        enclaves: EnclaveSpan(IndexSpan {
+            start: long_of(p, n, 28),
+            len: long_of(p, n, 36),
+        }),
     }
 }
 
@@ -292,7 +285,10 @@ pub fn reactor_at(p: &[u8], n: usize) -> ReactorImage
         state_binding: BindingSlotIndex(word_of(p, n, 4)),
         state_slot: word_of(p, n, 8),
         root_scope: ScopeIndex(word_of(p, n, 12)),
-        modes: ModeSpan(span_of(p, n, 16)),
+        modes: ModeSpan(IndexSpan {
+            start: long_of(p, n, 16),
+            len: long_of(p, n, 24),
+        }),
         initial_mode: maybe_mode(bit(bits, 1), word_of(p, n, 32)),
         bank: maybe_bank(bit(bits, 2), word_of(p, n, 36), word_of(p, n, 40)),
     }

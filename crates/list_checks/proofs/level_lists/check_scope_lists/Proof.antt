@@ -1,21 +1,31 @@
 -- `list_checks::level_lists::check_scope_lists` meets its contract. Assumes nothing.
 use Rattle.list_checks.specs.ListTables.{scopeListChecks}
+use mathlib.Core.Path.{refl}
+use borrow.Author.Tests.{not-false}
 use Rattle.answers.proofs.Laws.{skip, stop}
+use Rattle.answers.proofs.Quick.{surely, exactly, stopped}
 use borrow.Author.Needs.{needs}
 use Rattle.list_checks.proofs.level_lists.check_scope_lists.Statement.{statement}
 use Rattle.list_checks.proofs.level_lists.check_scope_lists.Tie as tie
 
 returns : tie.Need-returns
 unfolding scopeListChecks
-returns c = rw (← c .before .before .before .before .row-number .ensures, ← c .before .before .before .scope-reset-reactions-at .ensures) (stop _ (c .before .before .validate-levels .ensures) (c .enum-told2 .given .1))
+returns c =
+    rw (← c .before .before .before .before .row-number .ensures, ← c .before .before .before .scope-reset-reactions-at .ensures)
+    (stopped _ (c .validate-levels .ensures) (c .before .before .levels-pass .ensures) (c .before .if1 .taken))
 
 returns-2 : tie.Need-returns-2
 unfolding scopeListChecks
-returns-2 c = rw (← c .before .before .before .before .before .before .before .before .row-number .ensures, ← c .before .before .before .before .before .before .before .scope-reset-reactions-at .ensures, ← c .before .before .before .scope-startup-reactions-at .ensures) (skip (c .before .before .before .before .before .before .validate-levels .ensures) (c .before .before .before .before .enum-told .given .1) (stop _ (c .before .before .validate-lifecycle .ensures) (c .enum-told4 .given .1)))
+returns-2 c =
+    rw (← c .before .before .before .before .before .before .before .row-number .ensures, ← c .before .before .before .before .before .before .scope-reset-reactions-at .ensures, ← c .before .before .before .scope-startup-reactions-at .ensures)
+    (skip (surely (exactly (c .before .before .before .before .before .levels-pass .ensures)) (not-false _ (c .before .before .before .before .if1 .left))) refl (stop _ (c .before .before .validate-lifecycle .ensures) (c .enum-told2 .given .1)))
 
 returns-3 : tie.Need-returns-3
 unfolding scopeListChecks
-returns-3 c = rw (← c .before .before .before .before .before .before .before .before .before .before .row-number .ensures, ← c .before .before .before .before .before .before .before .before .before .scope-reset-reactions-at .ensures, ← c .before .before .before .before .before .scope-startup-reactions-at .ensures, ← c .before .scope-shutdown-reactions-at .ensures) (skip (c .before .before .before .before .before .before .before .before .validate-levels .ensures) (c .before .before .before .before .before .before .enum-told .given .1) (skip (c .before .before .before .before .validate-lifecycle .ensures) (c .before .before .enum-told3 .given .1) (c .validate-lifecycle2 .ensures)))
+returns-3 c =
+    rw (← c .before .before .before .before .before .before .before .before .before .row-number .ensures, ← c .before .before .before .before .before .before .before .before .scope-reset-reactions-at .ensures, ← c .before .before .before .before .before .scope-startup-reactions-at .ensures, ← c .before .scope-shutdown-reactions-at .ensures)
+    (skip (surely (exactly (c .before .before .before .before .before .before .before .levels-pass .ensures)) (not-false _ (c .before .before .before .before .before .before .if1 .left))) refl
+    (skip (c .before .before .before .before .validate-lifecycle .ensures) (c .before .before .enum-told .given .1) (c .validate-lifecycle2 .ensures)))
 
 pub check-scope-lists-spec : {M : Type 1} → statement M
 check-scope-lists-spec =
@@ -24,8 +34,7 @@ check-scope-lists-spec =
     (λ c κs. search needs)
     (λ c κs. search needs)
     (λ c κs. search needs)
-    (λ c. search needs)
-    (λ c. search needs)
+    (λ c κs. search needs)
     returns
     (λ c κs. search needs)
     (λ c κs. search needs)

@@ -20,7 +20,7 @@ returns c =
 
 returns-2 : tie.Need-returns-2
 unfolding federateAt
-returns-2 c = simp (c .span-of .ensures, c .before .place-of3 .ensures, c .before .before .bit3 .ensures, c .before .before .before .place-of2 .ensures, c .before .before .before .before .bit2 .ensures, c .before .before .before .before .before .place-of .ensures, c .before .before .before .before .before .before .bit .ensures, c .before .before .before .before .before .before .before .byte-of .ensures)
+returns-2 c = simp (c .long-of2 .ensures, c .before .long-of .ensures, c .before .before .place-of3 .ensures, c .before .before .before .bit3 .ensures, c .before .before .before .before .place-of2 .ensures, c .before .before .before .before .before .bit2 .ensures, c .before .before .before .before .before .before .place-of .ensures, c .before .before .before .before .before .before .before .bit .ensures, c .before .before .before .before .before .before .before .before .byte-of .ensures)
 
 pub federate-at-spec : {M : Type 1} → statement M
 federate-at-spec =
@@ -28,6 +28,7 @@ federate-at-spec =
     (tie.spec
     (λ c κs. search needs)
     returns
+    (λ c κs. search needs)
     (λ c κs. search needs)
     (λ c κs. search needs)
     (λ c κs. search needs)

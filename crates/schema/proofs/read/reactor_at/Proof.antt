@@ -20,7 +20,7 @@ returns c =
 
 returns-2 : tie.Need-returns-2
 unfolding reactorAt
-returns-2 c = simp (c .maybe-bank .ensures, c .before .word-of6 .ensures, c .before .before .word-of5 .ensures, c .before .before .before .bit2 .ensures, c .before .before .before .before .maybe-mode .ensures, c .before .before .before .before .before .word-of4 .ensures, c .before .before .before .before .before .before .bit .ensures, c .before .before .before .before .before .before .before .span-of .ensures, c .before .before .before .before .before .before .before .before .word-of3 .ensures, c .before .before .before .before .before .before .before .before .before .word-of2 .ensures, c .before .before .before .before .before .before .before .before .before .before .word-of .ensures, c .before .before .before .before .before .before .before .before .before .before .before .byte-of .ensures)
+returns-2 c = simp (c .maybe-bank .ensures, c .before .word-of6 .ensures, c .before .before .word-of5 .ensures, c .before .before .before .bit2 .ensures, c .before .before .before .before .maybe-mode .ensures, c .before .before .before .before .before .word-of4 .ensures, c .before .before .before .before .before .before .bit .ensures, c .before .before .before .before .before .before .before .long-of2 .ensures, c .before .before .before .before .before .before .before .before .long-of .ensures, c .before .before .before .before .before .before .before .before .before .word-of3 .ensures, c .before .before .before .before .before .before .before .before .before .before .word-of2 .ensures, c .before .before .before .before .before .before .before .before .before .before .before .word-of .ensures, c .before .before .before .before .before .before .before .before .before .before .before .before .byte-of .ensures)
 
 pub reactor-at-spec : {M : Type 1} → statement M
 reactor-at-spec =
@@ -28,6 +28,7 @@ reactor-at-spec =
     (tie.spec
     (λ c κs. search needs)
     returns
+    (λ c κs. search needs)
     (λ c κs. search needs)
     (λ c κs. search needs)
     (λ c κs. search needs)
