@@ -1,6 +1,7 @@
 // The part of a lent text that an identity's place names.
 ghost use mathlib.Core.Path.{_≡_};
-ghost use mathlib.Core.Bool.{cond};
+ghost use mathlib.Core.Bool.{true, cond};
+ghost use Rattle.identity.specs.Utf8.{utf8};
 ghost use Rattle.identity.specs.Text.{partAt, partPointer, namedText, placeInside, identityText, identityPointer};
 use crate::IdentityPlace;
 
@@ -40,4 +41,17 @@ pub fn identity_text<'a>(batch: &'a [u8], house: &'a [u8], place: IdentityPlace)
     ensures { λ r. ⌜ r .ptr ≡ identityPointer (batch .entry .ptr) (house .entry .ptr) (now (batch .entry)) (now (house .entry)) place ⌝ }
 {
     part_at(named_text(batch, house, place), place.start, place.len)
+}
+
+// Whether a place is inside its text and names 4 to 16 bytes of ASCII: a quick test for callers that have many, the text chosen once.
+pub fn names_ascii<'a>(batch: &'a [u8], house: &'a [u8], place: IdentityPlace) -> bool
+    ensures { λ r. ⌜ (r ≡ true → (placeInside (now (batch .entry)) (now (house .entry)) place ≡ true) × (utf8 (identityText (now (batch .entry)) (now (house .entry)) place) ≡ true)) ⌝ }
+{
+    let text = named_text(batch, house, place);
+    let begin = place.start as usize;
+    let end = begin + place.len as usize;
+    if text.len() < end {
+        return false;
+    }
+    crate::scan::short_ascii(&text[begin..end])
 }

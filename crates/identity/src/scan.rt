@@ -275,8 +275,8 @@ fn visible_eight(text: &[u8], at: usize) -> bool
     visible_four(text, at) & visible_four(text, at + 4)
 }
 
-// Whether a text is 4 to 16 bytes of ASCII, by its first and its last 4 or 8, which leave none out: short texts are spared the scan.
-fn short_ascii(text: &[u8]) -> bool
+// Whether a text is 4 to 16 bytes of ASCII, by its first and its last 4 or 8, which leave none out: a quick test that spares short texts the scan.
+pub fn short_ascii(text: &[u8]) -> bool
     ensures { λ r. ⌜ (r ≡ true → utf8 (now (text .entry)) ≡ true) ⌝ }
 {
     let len = text.len();

@@ -1,25 +1,29 @@
 -- The records of a run: each in its place, and clean, so that their identities decide. Assumes nothing.
-use Prim.Native.Nat.{ℕ, zero, suc, _-_, _/_, _<_, _≤_}
+use Prim.Native.Nat.{ℕ, zero, suc, _+_, _-_, _/_, _<_, _≤_}
 use mathlib.Core.Bool.{true, false, _&&_}
-use mathlib.Core.Path.{_≡_, _∙_, sym}
+use mathlib.Core.Path.{_≡_, refl, _∙_, sym}
 use mathlib.Core.List.{List}
 use native.Mathlib.Omega.{arith}
 use lib.Dec.{ltb, leb}
 use lib.ListN.{length}
 use borrow.Author.Tests.{ltb-true, ltb-false, le-leb, eqb-true, ne-eqb}
+use Rattle.identity.specs.declared.IdentityPlace.{IdentityPlace}
+use Rattle.identity.specs.Utf8.{utf8}
+use Rattle.identity.specs.Text.{placeInside, identityText}
 use Rattle.answers.specs.declared.Outcome.{Outcome}
 use Rattle.answers.specs.declared.Outcome.the-variants.{Passed}
 use Rattle.answers.specs.Checks.{first, run, Decides}
+use Rattle.answers.proofs.Laws.{none, pass, decide}
 use Rattle.schema.specs.Layout.{layouts}
 use Rattle.schema.specs.Rows.{byteOf}
 use Rattle.packing.specs.declared.PackKind.{PackKind}
 use Rattle.packing.specs.declared.PackKind.the-variants.{Enclave, Federate}
 use Rattle.packing.specs.Shape.{layoutOf}
 use Rattle.packing.specs.Clean.{clean}
-use Rattle.packing.specs.Packing.{rowAfter, firstTable, tableAfter, inPlace, recordChecks}
-use Rattle.packing.specs.Runs.{CleanRun, RunLimit, NamedRun, namedChecks}
-use Rattle.packing.proofs.Tests.{cases, both}
-use Rattle.packing.proofs.CheckRuns.{run-passes, run-same}
+use Rattle.packing.specs.Packing.{rowAfter, firstTable, tableAfter, inPlace, identityAt, recordChecks}
+use Rattle.packing.specs.Runs.{CleanRun, RunLimit, NamedRun, NamedPassed, namedChecks}
+use Rattle.packing.proofs.Tests.{cases, both, and-next}
+use Rattle.packing.proofs.CheckRuns.{Left, left-from, left-past, run-passes, run-same}
 
 -- a row's table may repeat
 row-again : (u t : ℕ) → rowAfter u t ≡ true → rowAfter t t ≡ true
@@ -82,3 +86,31 @@ unfolding first run
 unnamed {p} {n} {r} batch house c z =
     let a = c .after in
     record { is = sym (run-passes (namedChecks p batch house) n (r - n) (λ j l m. rw (sym (c .each j l (omega arith)) ∙ z))) }
+
+-- a record with one identity, whose text is inside and UTF-8
+one-named : (p batch house : List ℕ) (n : ℕ) → layoutOf (byteOf p n 0) .identities ≡ 1 → (placeInside batch house (identityAt p n 0) ≡ true) × (utf8 (identityText batch house (identityAt p n 0)) ≡ true) → first (namedChecks p batch house n) ≡ Passed
+unfolding run
+one-named p batch house n e h = rw e (sym (decide (pass (h .0) (pass (h .1) none))))
+
+module _ {p batch house : List ℕ} {n next : ℕ} where
+  -- no record yet, and one more
+  pub passed-none : n ≤ next → NamedPassed p batch house n next n
+  passed-none l = record { after = omega arith; inside = l; each = λ j g h. absurd (omega arith) }
+
+  pub passed-next : {m k : ℕ} {id : IdentityPlace} → NamedRun p n next k → k ≡ 1 → NamedPassed p batch house n next m → m < next → id ≡ identityAt p m 0 → (placeInside batch house id ≡ true) × (utf8 (identityText batch house id) ≡ true) → NamedPassed p batch house n next (m + 1)
+  passed-next {m} g z c l i h =
+      let a = c .after in
+      let d = one-named p batch house m (sym (g .each m a l) ∙ z) (rw i at h) in
+      record {
+        after = omega arith;
+        inside = omega arith;
+        each = and-next (λ j. first (namedChecks p batch house j) ≡ Passed) n m (c .each) d;
+      }
+
+  -- the records after those that passed are left
+  pub passed-left : {r : ℕ} → NamedPassed p batch house n next r → Left (run (namedChecks p batch house) n (next - n)) (namedChecks p batch house) r next
+  passed-left {r} c =
+      let a = c .after in
+      let i = c .inside in
+      let f = namedChecks p batch house in
+      left-past (left-from f (omega arith)) a i (record { is = sym (run-passes f n (r - n) (λ j l m. c .each j l (omega arith))) }) refl

@@ -5,7 +5,8 @@ use mathlib.Core.Path.{_≡_}
 use mathlib.Core.List.{List}
 use lib.Dec.{ltb, leb, eqb}
 use lib.ListN.{getD, length, set}
-use Rattle.answers.specs.Checks.{Check, run}
+use Rattle.answers.specs.declared.Outcome.the-variants.{Passed}
+use Rattle.answers.specs.Checks.{Check, first, run}
 use Rattle.schema.specs.Rows.{byteOf}
 use Rattle.packing.specs.declared.shape.Shape.{Shape}
 use Rattle.packing.specs.Shape.{layoutOf}
@@ -78,3 +79,9 @@ pub record NamedRun (p : List ℕ) (n r count : ℕ) : Type 0 where
 -- the checks of record n's identities, in field order
 abbrev pub namedChecks : List ℕ → List ℕ → List ℕ → ℕ → List Check
 namedChecks p batch house n = run (identityChecks p batch house n) 0 (layoutOf (byteOf p n 0) .identities)
+
+-- the identities of the records from n up to r, which is not past `next`, pass their checks
+pub record NamedPassed (p batch house : List ℕ) (n next r : ℕ) : Type 0 where
+  pub after : n ≤ r
+  pub inside : r ≤ next
+  pub each : (j : ℕ) → n ≤ j → j < r → first (namedChecks p batch house j) ≡ Passed

@@ -7,7 +7,7 @@ ghost use Rattle.answers.specs.Checks.{first, run, Decides};
 ghost use Rattle.schema.specs.Rows.{byteOf, bitOf};
 ghost use Rattle.packing.specs.Shape.{layoutOf};
 ghost use Rattle.packing.specs.Packing.{packFits, textFits, rowAfter, firstTable, tableAfter, inPlace, identityAt, identityChecks, recordChecks, packingChecks};
-ghost use Rattle.packing.specs.Runs.{NamedRun, RunLimit, namedChecks};
+ghost use Rattle.packing.specs.Runs.{NamedRun, RunLimit, NamedPassed, namedChecks};
 use crate::PackKind;
 use crate::clean::past_clean;
 use crate::shape::TABLES;
@@ -142,6 +142,32 @@ fn check_identities<'a>(
     Outcome::Passed
 }
 
+// How far from n on the records, where each has one identity, are seen to pass: a short ASCII text. The others are left to the full check.
+fn named_past<'a>(
+    pack: &'a [u8],
+    batch: &'a [u8],
+    house: &'a [u8],
+    n: usize,
+    next: usize,
+    count: u8,
+) -> usize
+    requires { ⌜ (packFits (now pack) ≡ true) × NamedRun (now pack) n next count ⌝ }
+    ensures { λ r. ⌜ NamedPassed (now (pack .entry)) (now (batch .entry)) (now (house .entry)) n next r ⌝ }
+{
+    if count != 1 {
+        return n;
+    }
+    let mut m = n;
+    while m < next {
+        let id = identity_at(pack, m as u32, m * 64, 0);
+        if !identity::place::names_ascii(batch, house, id) {
+            return m;
+        }
+        m += 1;
+    }
+    m
+}
+
 // The checks of the identities of the records from n up to `next`, `count` in each.
 fn check_named<'a>(
     pack: &'a [u8],
@@ -157,7 +183,7 @@ fn check_named<'a>(
     if count == 0 {
         return Outcome::Passed;
     }
-    let mut m = n;
+    let mut m = named_past(pack, batch, house, n, next, count);
     while m < next {
         let found = check_identities(pack, batch, house, m as u32, m * 64, count);
         let Outcome::Passed = found else {
