@@ -4,7 +4,6 @@ ghost use Rattle.checks.specs.Image.{image};
 ghost use Rattle.enclave.specs.Answer.{outcomeAnswer, parentsOutcome, answerNumbers, imageResult, enclaveAnswer};
 use crate::EnclaveAnswer;
 use answers::Outcome;
-use packing::PackKind;
 use schema::TableStarts;
 use scope_checks::links::Parents;
 
@@ -61,10 +60,10 @@ pub fn check_image<'a>(
 pub fn check_enclave<'a>(pack: &'a [u8], batch: &'a [u8], house: &'a [u8]) -> EnclaveAnswer
     ensures { λ r. ⌜ answerNumbers r ≡ enclaveAnswer (now (pack .entry)) (now (batch .entry)) (now (house .entry)) ⌝ }
 {
-    let packed = packing::rules::check_packing(PackKind::Enclave, pack, batch, house);
+    let mut s = [0u32; 26];
+    let packed = packing::rules::check_enclave_packing(pack, batch, house, &mut s);
     let Outcome::Passed = packed else {
         return refused(packed);
     };
-    let s = packing::starts::table_starts(pack, 1, true);
     check_image(pack, batch, house, &s, 0)
 }

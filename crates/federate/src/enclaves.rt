@@ -33,7 +33,7 @@ fn check_enclave_at<'a>(pack: &'a [u8], batch: &'a [u8], house: &'a [u8], n: u32
     ensures { λ r. ⌜ r ≡ imageResult (imageAt (now (pack .entry)) (now (batch .entry)) (now (house .entry)) n) ⌝ }
 {
     let own = records::enclave_pack(pack, n);
-    let s = starts::table_starts(own, 1, false);
+    let s = starts::table_starts(own, 1);
     check::check_image(own, batch, house, &s, 0)
 }
 

@@ -7,3 +7,4 @@ pub mod Packed
 pub mod CleanRuns
 pub mod CheckRuns
 pub mod Places
+pub mod EnclaveStarts

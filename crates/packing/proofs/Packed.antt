@@ -16,9 +16,7 @@ use Rattle.schema.specs.Rows.{byteOf}
 use Rattle.packing.specs.declared.PackKind.{PackKind}
 use Rattle.packing.specs.declared.PackKind.the-variants.{Enclave}
 use Rattle.packing.specs.Packing.{inPlace, recordChecks, packingChecks}
-use Rattle.packing.specs.Runs.{Rising}
 use Rattle.packing.proofs.Tests.{both}
-use Rattle.packing.proofs.TableStarts.{records-inside}
 
 -- where a list passes, each of its checks does
 passed-first : (b : Bool) (r : Refusal) (cs : List Check) → first (need b r ∷ cs) ≡ Passed → (b ≡ true) × (first cs ≡ Passed)
@@ -74,6 +72,3 @@ module _ (p batch house : List ℕ) (h : first (packingChecks Enclave p batch ho
         | yes g ↦ (let e = i g (omega arith) in let r = rows-above k u .1 in omega arith)
         | no g ↦ (let x : j ≡ suc k = omega arith in rw x (omega arith))
       ]
-
-  pub rising : Rising p
-  rising = record { rise = λ j k l u. rise j k l (let a = records-inside p in omega arith) }

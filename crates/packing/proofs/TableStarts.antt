@@ -14,7 +14,7 @@ use Rattle.schema.specs.Rows.{byteOf}
 use Rattle.packing.proofs.Tests.{cases, both, neither, and-next}
 use Rattle.packing.proofs.Records.{table-at}
 use Rattle.packing.specs.Starts.{recordsOf, reaches, firstReaching, tableStart, startsBelow, tableStarts}
-use Rattle.packing.specs.Runs.{OneTable, ofTable, Rising, Reached, FixedAt, startsAt}
+use Rattle.packing.specs.Runs.{OneTable, ofTable, Reached, FixedAt, startsAt}
 
 reaching : (a b : Bool) (d e : ℕ) → not a || (b || leb d e) ≡ false → (a ≡ true) × (e < d)
 reaching true true d e h = absurd (true≢false h)
@@ -204,20 +204,6 @@ module _ {p : List ℕ} {k n : ℕ} (a : Alike p k n) where
         after = omega arith;
         inside = omega arith;
         same = and-next (λ j. byteOf p j 0 ≡ byteOf p k 0) k n (o .same) (a .same);
-      }
-
-  -- where the tables rise, all records between are of the table too
-  pub one-leap : Rising p → k ≤ n → OneTable p k (n + 1)
-  one-leap s l =
-      let i = a .inside in
-      let e = a .same in
-      record {
-        after = omega arith;
-        inside = omega arith;
-        same = λ j g m.
-            let x = s .rise k j g (omega arith) in
-            let y = s .rise j n (omega arith) i in
-            omega arith;
       }
 
 -- the loop over the starts at one record

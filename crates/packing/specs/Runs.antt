@@ -1,4 +1,4 @@
--- Auxiliary: what the contracts of functions inside this crate cite; of this, `table_starts` cites only `Rising`, and `check_packing` nothing. Assumes nothing.
+-- Auxiliary: what the contracts of functions inside this crate cite, and no public contract of another's. Assumes nothing.
 use Prim.Native.Nat.{ℕ, zero, suc, _+_, _-_, _/_, _<_, _≤_}
 use mathlib.Core.Bool.{Bool, true, false, _&&_}
 use mathlib.Core.Path.{_≡_}
@@ -8,6 +8,8 @@ use lib.ListN.{getD, length, set}
 use Rattle.answers.specs.declared.Outcome.the-variants.{Passed}
 use Rattle.answers.specs.Checks.{Check, first, run}
 use Rattle.schema.specs.Rows.{byteOf}
+use Rattle.packing.specs.declared.PackKind.{PackKind}
+use Rattle.packing.specs.declared.PackKind.the-variants.{Enclave}
 use Rattle.packing.specs.declared.shape.Shape.{Shape}
 use Rattle.packing.specs.Shape.{layoutOf}
 use Rattle.packing.specs.Clean.{zeros, clean}
@@ -23,10 +25,6 @@ pub record OneTable (p : List ℕ) (k r : ℕ) : Type 0 where
 -- there is a record n, and it is of table t
 abbrev pub ofTable : List ℕ → ℕ → ℕ → Bool
 ofTable p n t = ltb n (recordsOf p) && eqb (byteOf p n 0) t
-
--- no record is of a later table than one after it
-pub record Rising (p : List ℕ) : Type 0 where
-  pub rise : (j k : ℕ) → j ≤ k → k < recordsOf p → byteOf p j 0 ≤ byteOf p k 0
 
 -- record k reaches the tables up to r, and none of those after it
 pub record Reached (p : List ℕ) (k r : ℕ) : Type 0 where
@@ -44,6 +42,11 @@ pub record FixedAt (k last t : ℕ) (s : List ℕ) (r : ℕ) (w : List ℕ) : Ty
   pub after : t ≤ r
   pub these : (j : ℕ) → t ≤ j → j < r → j ≤ last
   pub is : w ≡ startsAt k t (r - t) s
+
+-- the same at record n of an enclave's pack, from its first row on; at record 0 nothing is done
+pub record RowsFixed (kind : PackKind) (n last t : ℕ) (s : List ℕ) (r : ℕ) (w : List ℕ) : Type 0 where
+  pub none : n ≡ 0 → (r ≡ t) × (w ≡ s)
+  pub rows : kind ≡ Enclave → (n ≡ 0 → ⊥) → (last < r) × FixedAt n last t s r w
 
 -- a shape that governs no field, whose fields end in the first half of the record
 pub record PlainShape (s : Shape) : Type 0 where

@@ -4,6 +4,8 @@ use mathlib.Core.Bool.{Bool, not, _||_, cond}
 use mathlib.Core.List.{List, [], _∷_, _++_}
 use lib.Dec.{ltb, leb}
 use lib.ListN.{length}
+use Rattle.answers.specs.declared.Outcome.{Outcome}
+use Rattle.answers.specs.declared.Outcome.the-variants.{Passed, Refused}
 use Rattle.schema.specs.Rows.{byteOf}
 
 -- the records of a pack, at most as many as the pack's limit has
@@ -31,3 +33,8 @@ startsBelow p rows (suc k) = startsBelow p rows k ++ (tableStart p rows k ∷ []
 -- the starts of tables 0 to 24, and the enclave's end
 unfoldable pub tableStarts : List ℕ → ℕ → List ℕ
 tableStarts p rows = startsBelow p rows 26
+
+-- the starts after the packing rules of an enclave's pack p: its own where it passes, else s, as they were
+abbrev pub startsAfter : Outcome → List ℕ → List ℕ → List ℕ
+startsAfter Passed p s = tableStarts p 1
+startsAfter (Refused r) p s = s

@@ -7,16 +7,19 @@ ghost use Rattle.answers.specs.Checks.{first, run, Decides};
 ghost use Rattle.schema.specs.Rows.{byteOf, bitOf};
 ghost use Rattle.packing.specs.Shape.{layoutOf};
 ghost use Rattle.packing.specs.Packing.{packFits, textFits, rowAfter, firstTable, tableAfter, inPlace, identityAt, identityChecks, recordChecks, packingChecks};
-ghost use Rattle.packing.specs.Runs.{NamedRun, RunLimit, NamedPassed, namedChecks};
+ghost use Rattle.packing.specs.Starts.{startsAfter};
+ghost use Rattle.packing.specs.Runs.{NamedRun, RunLimit, NamedPassed, RowsFixed, namedChecks};
 use crate::PackKind;
 use crate::clean::past_clean;
 use crate::shape::TABLES;
 use crate::shape::shape_of;
+use crate::starts::fix_starts;
 use crate::walker::Record;
 use crate::walker::record_by_walker;
 use answers::Outcome;
 use answers::Refusal;
 use identity::IdentityPlace;
+use schema::TableStarts;
 use schema::number::high;
 use schema::number::low;
 use schema::number::words_inside;
@@ -205,32 +208,81 @@ fn limit_of(table: u8, n: usize, records: usize) -> usize
     records
 }
 
-// Run by run, until the walker is at the end. A record of the same table after one in its place is in its place.
-fn check_records<'a>(kind: PackKind, pack: &'a [u8], batch: &'a [u8], house: &'a [u8]) -> Outcome
+// Fixes the starts of an enclave's tables from t to the last one at record n, and answers the table after them. Record 0 is the enclave's own, and a federate's pack has no such starts.
+fn fix_rows(kind: PackKind, starts: &mut TableStarts, t: usize, last: usize, n: usize) -> usize
+    requires { ⌜ (last < 26) × (n < 4294967296) ⌝ }
+    ensures { λ r. ⌜ RowsFixed kind n last t (now (starts .entry)) r (now (starts .exit)) ⌝ }
+{
+    let PackKind::Enclave = kind else {
+        return t;
+    };
+    if n == 0 {
+        return t;
+    }
+    fix_starts(starts, t, last, n as u32)
+}
+
+// Run by run, until the walker is at the end. A record of the same table after one in its place is in its place. `starts` is written at the end.
+fn check_records<'a>(
+    kind: PackKind,
+    pack: &'a [u8],
+    batch: &'a [u8],
+    house: &'a [u8],
+    starts: &mut TableStarts,
+) -> Outcome
     requires { ⌜ packFits (now pack) ≡ true ⌝ }
     ensures { λ r. ⌜ Decides (run (recordChecks kind (now (pack .entry)) (now (batch .entry)) (now (house .entry))) 0 (length (now (pack .entry)) / 64)) r ⌝ }
+    ensures { λ r. ⌜ (kind ≡ PackKind.Enclave → now (starts .exit) ≡ startsAfter r (now (pack .entry)) (now (starts .entry))) ⌝ }
 {
+    let mut found = [0u32; 26];
+    let mut t: usize = 0;
     let mut n: usize = 0;
     loop {
         let record = record_by_walker(pack, n);
         let Record::At { table, .. } = record else {
+            fix_rows(kind, &mut found, t, 25, n);
+            *starts = found;
             return Outcome::Passed;
         };
         let place = n as u32;
         if !in_place(kind, pack, place, table) {
             return Outcome::Refused(Refusal::TableOutOfPlace { record: place });
         }
+        t = fix_rows(kind, &mut found, t, table as usize, n);
         let shape = shape_of(table);
         let next = past_clean(pack, n, table, shape, limit_of(table, n, pack.len() / 64));
         if next == n {
             return Outcome::Refused(Refusal::StrayByte { record: place });
         }
-        let found = check_named(pack, batch, house, n, next, shape.identities);
-        let Outcome::Passed = found else {
-            return found;
+        let named = check_named(pack, batch, house, n, next, shape.identities);
+        let Outcome::Passed = named else {
+            return named;
         };
         n = next;
     }
+}
+
+// The packing rules of a pack over its two texts, with the starts of an enclave's tables where it passes.
+fn check_parts<'a>(
+    kind: PackKind,
+    pack: &'a [u8],
+    batch: &'a [u8],
+    house: &'a [u8],
+    starts: &mut TableStarts,
+) -> Outcome
+    ensures { λ r. ⌜ r ≡ first (packingChecks kind (now (pack .entry)) (now (batch .entry)) (now (house .entry))) ⌝ }
+    ensures { λ r. ⌜ (kind ≡ PackKind.Enclave → now (starts .exit) ≡ startsAfter r (now (pack .entry)) (now (starts .entry))) ⌝ }
+{
+    if !pack_fits(pack) {
+        return Outcome::Refused(Refusal::Length);
+    }
+    if !text_fits(batch) {
+        return Outcome::Refused(Refusal::TextTooLong { text: 0 });
+    }
+    if !text_fits(house) {
+        return Outcome::Refused(Refusal::TextTooLong { text: 1 });
+    }
+    check_records(kind, pack, batch, house, starts)
 }
 
 // The packing rules of a pack over its two texts.
@@ -242,14 +294,19 @@ pub fn check_packing<'a>(
 ) -> Outcome
     ensures { λ r. ⌜ r ≡ first (packingChecks kind (now (pack .entry)) (now (batch .entry)) (now (house .entry))) ⌝ }
 {
-    if !pack_fits(pack) {
-        return Outcome::Refused(Refusal::Length);
-    }
-    if !text_fits(batch) {
-        return Outcome::Refused(Refusal::TextTooLong { text: 0 });
-    }
-    if !text_fits(house) {
-        return Outcome::Refused(Refusal::TextTooLong { text: 1 });
-    }
-    check_records(kind, pack, batch, house)
+    let mut starts = [0u32; 26];
+    check_parts(kind, pack, batch, house, &mut starts)
+}
+
+// The same for an enclave's pack: where it passes, `starts` holds where its tables begin, which the rules meet on their way; else it is left as it was.
+pub fn check_enclave_packing<'a>(
+    pack: &'a [u8],
+    batch: &'a [u8],
+    house: &'a [u8],
+    starts: &mut TableStarts,
+) -> Outcome
+    ensures { λ r. ⌜ r ≡ first (packingChecks PackKind.Enclave (now (pack .entry)) (now (batch .entry)) (now (house .entry))) ⌝ }
+    ensures { λ r. ⌜ now (starts .exit) ≡ startsAfter r (now (pack .entry)) (now (starts .entry)) ⌝ }
+{
+    check_parts(PackKind::Enclave, pack, batch, house, starts)
 }

@@ -3,13 +3,10 @@ ghost use mathlib.Core.Path.{_≡_};
 ghost use mathlib.Core.Bool.{true};
 ghost use Prim.Native.Nat.{_+_, _<_};
 ghost use Rattle.packing.specs.Starts.{recordsOf, tableStarts};
-ghost use Rattle.packing.specs.Runs.{OneTable, ofTable, Rising, Reached, FixedAt};
+ghost use Rattle.packing.specs.Runs.{OneTable, ofTable, Reached, FixedAt};
 use schema::TableStarts;
 
 const MAX_RECORDS: usize = 65536;
-
-// With fewer records a look at each is quicker than leaps.
-const LONG_PACK: usize = 128;
 
 // The records that are looked at.
 fn records_of(p: &[u8]) -> usize
@@ -39,7 +36,7 @@ fn reached(p: &[u8], records: usize, k: u32) -> usize
 }
 
 // Fixes the starts from table t to the last one at record k, and answers the table after them.
-fn fix_starts(starts: &mut [u32; 26], t: usize, last: usize, k: u32) -> usize
+pub fn fix_starts(starts: &mut [u32; 26], t: usize, last: usize, k: u32) -> usize
     requires { ⌜ last < 26 ⌝ }
     ensures { λ r. ⌜ (last < r) × FixedAt k last t (now (starts .entry)) r (now (starts .exit)) ⌝ }
 {
@@ -63,7 +60,7 @@ fn is_of(p: &[u8], records: usize, n: u32, table: u8) -> bool
     p[place * 64] == table
 }
 
-// The first record after record k that is of another table, or the end: by a look at each.
+// The first record after record k that is of another table, or the end.
 fn past_each(p: &[u8], records: usize, k: u32) -> u32
     requires { ⌜ (records ≡ recordsOf (now p)) × (k < records) ⌝ }
     ensures { λ r. ⌜ OneTable (now (p .entry)) k r ⌝ }
@@ -76,52 +73,8 @@ fn past_each(p: &[u8], records: usize, k: u32) -> u32
     next
 }
 
-// A record up to which record k's table goes: the last of it at the distances 1, 2, 4, .. from k, or k itself. A short table takes few looks.
-fn leap(p: &[u8], records: usize, k: u32) -> u32
-    requires { ⌜ (records ≡ recordsOf (now p)) × ((k < records) × Rising (now p)) ⌝ }
-    ensures { λ r. ⌜ OneTable (now (p .entry)) k (r + 1) ⌝ }
-{
-    let table = p[k as usize * 64];
-    let mut last = k;
-    let mut far = 1;
-    while is_of(p, records, k + far, table) {
-        last = k + far;
-        far *= 2;
-    }
-    last
-}
-
-// The first record of another table after the leap from record k to `low`, or the end: by steps of half the leap, half of that, and so on.
-fn past_leap(p: &[u8], records: usize, k: u32, low: u32) -> u32
-    requires { ⌜ (records ≡ recordsOf (now p)) × (Rising (now p) × OneTable (now p) k (low + 1)) ⌝ }
-    ensures { λ r. ⌜ OneTable (now (p .entry)) k r ⌝ }
-{
-    let table = p[k as usize * 64];
-    let mut last = low;
-    let mut step = (low - k) / 2;
-    while 0 < step {
-        if is_of(p, records, last + step, table) {
-            last += step;
-        }
-        step /= 2;
-    }
-    last + 1
-}
-
-// The first record after record k that is of another table, or the end. Only where tables rise can records be leapt over.
-fn past_table(p: &[u8], records: usize, k: u32, rising: bool) -> u32
-    requires { ⌜ (records ≡ recordsOf (now p)) × ((k < records) × (rising ≡ true → Rising (now p))) ⌝ }
-    ensures { λ r. ⌜ OneTable (now (p .entry)) k r ⌝ }
-{
-    if rising & (LONG_PACK <= records) {
-        return past_leap(p, records, k, leap(p, records, k));
-    }
-    past_each(p, records, k)
-}
-
-// The starts of the tables in the enclave whose rows start at record `rows`. A turn fixes those of the tables that record k reaches, and moves past its table. `rising`: the tables are known to rise.
-pub fn table_starts(p: &[u8], rows: u32, rising: bool) -> TableStarts
-    requires { ⌜ (rising ≡ true → Rising (now p)) ⌝ }
+// The starts of the tables in the enclave whose rows start at record `rows`. A turn fixes those of the tables that record k reaches, and moves past its table.
+pub fn table_starts(p: &[u8], rows: u32) -> TableStarts
     ensures { λ r. ⌜ r ≡ tableStarts (now (p .entry)) rows ⌝ }
 {
     let records = records_of(p);
@@ -133,6 +86,6 @@ pub fn table_starts(p: &[u8], rows: u32, rising: bool) -> TableStarts
         if 26 <= t {
             return starts;
         }
-        k = past_table(p, records, k, rising);
+        k = past_each(p, records, k);
     }
 }

@@ -416,7 +416,7 @@ fn write_starts(starts: [u32; 26]) {
 // The starts of the tables in the first n bytes of a pack.
 fn starts_of(pack: &[u8], n: usize, rows: u32) -> [u32; 26] {
     if n <= pack.len() {
-        return packing::starts::table_starts(&pack[..n], rows, false);
+        return packing::starts::table_starts(&pack[..n], rows);
     }
     [0; 26]
 }

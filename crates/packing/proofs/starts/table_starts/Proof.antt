@@ -11,10 +11,10 @@ use Rattle.packing.proofs.starts.table_starts.Statement.{statement}
 use Rattle.packing.proofs.starts.table_starts.Tie as tie
 
 abbrev Inv-loop : tie.InvT-loop
-Inv-loop p rows rising records starts₀ t₀ k₀ starts t k = Fixed p rows starts t k
+Inv-loop p rows records starts₀ t₀ k₀ starts t k = Fixed p rows starts t k
 
 abbrev μ-loop : tie.MeasureT-loop
-μ-loop p rows rising records starts₀ t₀ k₀ starts t k = recordsOf p - k
+μ-loop p rows records starts₀ t₀ k₀ starts t k = recordsOf p - k
 
 -- the starts that record k reaches are fixed
 fixed : (c : tie.After-fix-starts Inv-loop μ-loop) → Fixed (now (c .before .before .before .before .before .before .args .p)) (c .before .before .before .before .before .before .args .rows) (c .fix-starts .last .0) (c .fix-starts .result) (c .before .before .before .loop .k)
@@ -24,11 +24,11 @@ fixed c = fixed-turn (c .before .before .before .loop .inv) (c .before .reached 
 short : (c : tie.Else1 Inv-loop μ-loop) → reaches (now (c .before .before .before .before .before .before .before .args .p)) (c .before .fix-starts .result) (c .before .before .before .before .loop .k) ≡ false
 short c = c .before .before .reached .ensures .others _ (c .before .fix-starts .ensures .0) (c .if1 .left)
 
-inside : tie.Need-past-table-requires Inv-loop μ-loop
+inside : tie.Need-past-each-requires Inv-loop μ-loop
 inside c κs =
     let s = c .before .before .before .before .before .before .before in
     let e = c .before .before .before .before .before .records-of .ensures in
-    (e, (rw e (not-reached (now (s .args .p)) (c .before .fix-starts .result) _ (short c) .0), s .pre))
+    (e, rw e (not-reached (now (s .args .p)) (c .before .fix-starts .result) _ (short c) .0))
 
 pub table-starts-spec : {M : Type 1} → statement M
 table-starts-spec =
@@ -42,5 +42,5 @@ table-starts-spec =
     (λ c κs. c .reached .ensures .known)
     (λ c. fixed-all (fixed (c .before)) (c .if1 .taken))
     inside
-    (λ c. let o = c .past-table .ensures in omega (arith, o .after, o .inside))
-    (λ c. fixed-move (fixed (c .before .before)) (short (c .before)) (c .past-table .ensures)))
+    (λ c. let o = c .past-each .ensures in omega (arith, o .after, o .inside))
+    (λ c. fixed-move (fixed (c .before .before)) (short (c .before)) (c .past-each .ensures)))
