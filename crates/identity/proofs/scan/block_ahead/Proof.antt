@@ -13,4 +13,4 @@ block-ahead-spec =
     tie.close
     (tie.spec
     (λ c. search needs)
-    (λ c e. leb-true 3 _ (both (leb 3 (c .args .at)) (ltb 16 (length (c .args .text .now) - c .args .at)) e .0)))
+    (λ c e. leb-true _ _ (both (leb _ (c .args .at)) (ltb 16 (length (c .args .text .now) - c .args .at)) e .0)))
