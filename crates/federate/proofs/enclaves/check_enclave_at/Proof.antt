@@ -1,6 +1,4 @@
 -- `federate::enclaves::check_enclave_at` meets its contract. Assumes nothing.
-use mathlib.Core.Bool.{true≢false}
-use mathlib.Core.Path.{sym}
 use borrow.Author.Needs.{needs}
 use Rattle.federate.proofs.enclaves.check_enclave_at.Statement.{statement}
 use Rattle.federate.proofs.enclaves.check_enclave_at.Tie as tie
@@ -9,6 +7,6 @@ pub check-enclave-at-spec : {M : Type 1} → statement M
 check-enclave-at-spec =
     tie.close (tie.spec
     (λ c κs. search needs)
-    (λ c κs e. absurd (true≢false (sym e)))
+    (λ c κs. search needs)
     (λ c κs. search needs)
     (λ c. rw (← c .before .before .before .enclave-pack .ensures, ← c .before .before .table-starts .ensures) (c .check-image .ensures)))
