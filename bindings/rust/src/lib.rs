@@ -78,38 +78,31 @@ extern "C" {
     ) -> u32;
 }
 
-/// The answer's numbers, as if of a refusal: the first is 0 where there is none.
-fn numbers(check: Check, pack: &[u8], batch: &[u8], house: &[u8]) -> Refusal {
-    let mut values = [0; 8];
-    // SAFETY: each pointer has its own slice's length, nothing writes a slice while it is lent, and `values` is this call's alone.
-    let len = unsafe {
-        check(
-            pack.as_ptr(),
-            pack.len(),
-            batch.as_ptr(),
-            batch.len(),
-            house.as_ptr(),
-            house.len(),
-            &mut values,
-        )
-    };
-    Refusal { len: len as usize, values }
+/// The numbers of an answer, written where the answer is: a refusal is them, and an answer of another kind is made of them.
+fn answer(check: Check, lent: [&[u8]; 3], accepted: fn(&[u64; 8]) -> Answer) -> Answer {
+    let mut answer = Answer::Refused(Refusal { len: 0, values: [0; 8] });
+    if let Answer::Refused(Refusal { len, values }) = &mut answer {
+        let [pack, batch, house] = lent;
+        // SAFETY: each pointer has its own slice's length, nothing writes a slice while it is lent, and `values` is this call's alone.
+        *len = unsafe {
+            check(pack.as_ptr(), pack.len(), batch.as_ptr(), batch.len(), house.as_ptr(), house.len(), values)
+        } as usize;
+        if values[0] == 0 {
+            answer = accepted(values);
+        }
+    }
+    answer
 }
 
 /// Checks a station's image.
 pub fn check_enclave(pack: &[u8], batch: &[u8], house: &[u8]) -> Answer {
-    let found = numbers(check_enclave_image, pack, batch, house);
-    match found.values {
-        [0, links, ..] => Answer::Enclave { links },
-        _ => Answer::Refused(found),
-    }
+    answer(check_enclave_image, [pack, batch, house], |values| Answer::Enclave { links: values[1] })
 }
 
 /// Checks a line's image.
 pub fn check_federate(pack: &[u8], batch: &[u8], house: &[u8]) -> Answer {
-    let found = numbers(check_federate_image, pack, batch, house);
-    match found.values {
-        [0, enclaves, links, ..] => Answer::Federate { enclaves, links },
-        _ => Answer::Refused(found),
-    }
+    answer(check_federate_image, [pack, batch, house], |values| Answer::Federate {
+        enclaves: values[1],
+        links: values[2],
+    })
 }
