@@ -1,18 +1,18 @@
 -- The starts of an enclave's tables, fixed run by run as the packing rules go. Assumes nothing.
-use Prim.Native.Nat.{ℕ, zero, suc, _+_, _*_, _-_, _/_, _%_, _<_, _≤_}
+use Prim.Native.Nat.{ℕ, zero, suc, _*_, _-_, _/_, _%_, _<_, _≤_}
 use mathlib.Core.Bool.{true, false, _&&_, _||_}
-use mathlib.Core.Path.{_≡_, refl, _∙_, sym}
+use mathlib.Core.Path.{_≡_, refl, _∙_}
 use mathlib.Core.List.{List}
 use native.Mathlib.Omega.{arith}
 use lib.Dec.{ltb, leb, eqb}
 use lib.ListN.{length, getD}
-use borrow.Author.Tests.{ltb-true, ltb-false, leb-true, eqb-true, lt-ltb, le-ltb}
+use borrow.Author.Tests.{ltb-true, ltb-false, leb-true, eqb-true, le-ltb}
 use Rattle.schema.specs.Layout.{layouts}
 use Rattle.schema.specs.Rows.{byteOf}
 use Rattle.packing.specs.declared.PackKind.{PackKind}
 use Rattle.packing.specs.declared.PackKind.the-variants.{Enclave, Federate}
-use Rattle.packing.specs.Packing.{packFits, rowAfter, firstTable, inPlace}
-use Rattle.packing.specs.Starts.{recordsOf, reaches, tableStarts}
+use Rattle.packing.specs.Packing.{packFits, rowAfter, inPlace}
+use Rattle.packing.specs.Starts.{recordsOf, tableStarts}
 use Rattle.packing.specs.Runs.{CleanRun, RunLimit, OneTable, Reached, RowsFixed}
 use Rattle.packing.proofs.Tests.{cases, both}
 use Rattle.packing.proofs.Tables.{pack-length}

@@ -1,4 +1,4 @@
--- Auxiliary: what the contracts of functions inside this crate cite, and no public contract of another's. Assumes nothing.
+-- Auxiliary: what the contracts of functions that only this crate calls cite. Assumes nothing.
 use Prim.Native.Nat.{ℕ, zero, suc, _+_, _-_, _/_, _<_, _≤_}
 use mathlib.Core.Bool.{Bool, true, false, _&&_}
 use mathlib.Core.Path.{_≡_}

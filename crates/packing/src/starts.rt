@@ -1,6 +1,5 @@
 // Where each table of an enclave begins, in one pass over its records.
 ghost use mathlib.Core.Path.{_≡_};
-ghost use mathlib.Core.Bool.{true};
 ghost use Prim.Native.Nat.{_+_, _<_};
 ghost use Rattle.packing.specs.Starts.{recordsOf, tableStarts};
 ghost use Rattle.packing.specs.Runs.{OneTable, ofTable, Reached, FixedAt};
