@@ -2,6 +2,7 @@
 ghost use mathlib.Core.Path.{_≡_};
 ghost use Rattle.checks.specs.Image.{image};
 ghost use Rattle.enclave.specs.Answer.{outcomeAnswer, parentsOutcome, answerNumbers, imageResult, enclaveAnswer};
+ghost use Rattle.schema.specs.Rows.{Whole};
 use crate::EnclaveAnswer;
 use answers::Outcome;
 use schema::TableStarts;
@@ -35,6 +36,7 @@ pub fn check_image<'a>(
     s: &'a TableStarts,
     n: usize,
 ) -> EnclaveAnswer
+    requires { ⌜ Whole (now p) ⌝ }
     ensures { λ r. ⌜ r ≡ imageResult (image (now (p .entry)) (now (batch .entry)) (now (house .entry)) (now (s .entry)) n) ⌝ }
 {
     let rows = crate::passes::check_rows(p, batch, house, s, n);

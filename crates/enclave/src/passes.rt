@@ -6,6 +6,7 @@ ghost use lib.ListN.{take, drop};
 ghost use Rattle.answers.specs.Checks.{run, Decides};
 ghost use Rattle.checks.specs.Image.{image};
 ghost use Rattle.enclave.specs.Passes.{lengthTable, lengthChecks, rootChecks, enclaveIdChecks, rowPasses, listPasses, checksOf};
+ghost use Rattle.schema.specs.Rows.{Whole};
 use answers::Outcome;
 use answers::field;
 use answers::kind;
@@ -61,6 +62,7 @@ fn check_root(s: &TableStarts) -> Outcome
 }
 
 fn check_enclave_id<'a>(p: &'a [u8], batch: &'a [u8], house: &'a [u8], n: usize) -> Outcome
+    requires { ⌜ Whole (now p) ⌝ }
     ensures { λ r. ⌜ Decides (enclaveIdChecks (image (now (p .entry)) (now (batch .entry)) (now (house .entry)) [] n) 0) r ⌝ }
 {
     identities::validate_id(batch, house, kind::ENCLAVE, 0, parts::enclave_id_at(p, n))
@@ -88,6 +90,7 @@ fn check_head<'a>(
     s: &'a TableStarts,
     n: usize,
 ) -> Outcome
+    requires { ⌜ Whole (now p) ⌝ }
     ensures { λ r. ⌜ Decides (checksOf (image (now (p .entry)) (now (batch .entry)) (now (house .entry)) (now (s .entry)) n) (take 3 rowPasses)) r ⌝ }
 {
     let lengths = check_lengths(s);
@@ -109,6 +112,7 @@ fn check_tables<'a>(
     s: &'a TableStarts,
     n: usize,
 ) -> Outcome
+    requires { ⌜ Whole (now p) ⌝ }
     ensures { λ r. ⌜ Decides (checksOf (image (now (p .entry)) (now (batch .entry)) (now (house .entry)) (now (s .entry)) n) (drop 3 rowPasses)) r ⌝ }
 {
     let reactors = reactors::check_reactors(p, s, n);
@@ -138,6 +142,7 @@ pub fn check_rows<'a>(
     s: &'a TableStarts,
     n: usize,
 ) -> Outcome
+    requires { ⌜ Whole (now p) ⌝ }
     ensures { λ r. ⌜ Decides (checksOf (image (now (p .entry)) (now (batch .entry)) (now (house .entry)) (now (s .entry)) n) rowPasses) r ⌝ }
 {
     let head = check_head(p, batch, house, s, n);
@@ -155,6 +160,7 @@ fn check_reaction_lists<'a>(
     s: &'a TableStarts,
     n: usize,
 ) -> Outcome
+    requires { ⌜ Whole (now p) ⌝ }
     ensures { λ r. ⌜ Decides (checksOf (image (now (p .entry)) (now (batch .entry)) (now (house .entry)) (now (s .entry)) n) (take 6 listPasses)) r ⌝ }
 {
     let actions = level_lists::check_triggers_of_actions(p, s);
@@ -188,6 +194,7 @@ fn check_scope_lists<'a>(
     s: &'a TableStarts,
     n: usize,
 ) -> Outcome
+    requires { ⌜ Whole (now p) ⌝ }
     ensures { λ r. ⌜ Decides (checksOf (image (now (p .entry)) (now (batch .entry)) (now (house .entry)) (now (s .entry)) n) (take 5 (drop 6 listPasses))) r ⌝ }
 {
     let enabled = list_tables::check_modes_of_reactions(p, s);
@@ -217,6 +224,7 @@ fn check_entries<'a>(
     s: &'a TableStarts,
     n: usize,
 ) -> Outcome
+    requires { ⌜ Whole (now p) ⌝ }
     ensures { λ r. ⌜ Decides (checksOf (image (now (p .entry)) (now (batch .entry)) (now (house .entry)) (now (s .entry)) n) (take 6 (drop 11 listPasses))) r ⌝ }
 {
     let triggers = level_lists::check_level_entries(p, s, ReactionTrigger::TABLE);
@@ -250,6 +258,7 @@ fn check_tail<'a>(
     s: &'a TableStarts,
     n: usize,
 ) -> Outcome
+    requires { ⌜ Whole (now p) ⌝ }
     ensures { λ r. ⌜ Decides (checksOf (image (now (p .entry)) (now (batch .entry)) (now (house .entry)) (now (s .entry)) n) (drop 17 listPasses)) r ⌝ }
 {
     let reactions = level_lists::check_shutdown_reactions(p, s);
@@ -275,6 +284,7 @@ pub fn check_lists<'a>(
     s: &'a TableStarts,
     n: usize,
 ) -> Outcome
+    requires { ⌜ Whole (now p) ⌝ }
     ensures { λ r. ⌜ Decides (checksOf (image (now (p .entry)) (now (batch .entry)) (now (house .entry)) (now (s .entry)) n) listPasses) r ⌝ }
 {
     let reactions = check_reaction_lists(p, batch, house, s, n);

@@ -1,11 +1,13 @@
 -- Where the enclave of a record ends. Assumes nothing.
 use Prim.Native.Nat.{ℕ, zero, suc, _+_, _-_, _*_, _<_, _≤_}
 use mathlib.Core.Bool.{Bool, true, false, cond}
-use mathlib.Core.Path.{_≡_, _∙_, ap, sym}
+use mathlib.Core.Path.{_≡_, refl, _∙_, ap, sym}
 use mathlib.Core.List.{List}
 use native.Mathlib.Numerals.{add-one}
 use native.Mathlib.Omega.{arith}
-use lib.ListN.{length, take, drop}
+use lib.ListN.{length, take, drop, length-drop}
+use lib.Seq.{length-take-le}
+use Rattle.schema.specs.Rows.{Whole}
 use Rattle.packing.specs.Starts.{recordsOf}
 use Rattle.packing.proofs.TableStarts.{records-inside}
 use Rattle.federate.specs.Records.{isOf, enclaveFrom, enclaveEnd, enclavePack}
@@ -67,3 +69,10 @@ pub part-is : (p : List ℕ) (n : ℕ) {end : ℕ} → end ≡ enclaveEnd p n �
 part-is p n {end} e =
     let q : end * 64 - n * 64 ≡ (enclaveEnd p n - n) * 64 = omega arith in
     ap (λ (k : ℕ). take k (drop (n * 64) p)) q
+
+-- of whole records
+pub part-whole : (p : List ℕ) (n : ℕ) → n < recordsOf p → Whole (enclavePack p n)
+part-whole p n l =
+    let h = part-inside p l refl in
+    let k : (enclaveEnd p n - n) * 64 ≤ length (drop (n * 64) p) = simp length-drop (omega (arith, h .0, h .1)) in
+    rw (length-take-le ((enclaveEnd p n - n) * 64) (drop (n * 64) p) k) (omega arith)

@@ -8,6 +8,7 @@ ghost use Rattle.enclave.specs.Answer.{answerOf, imageResult};
 ghost use mathlib.Core.Bool.{true};
 ghost use Rattle.federate.specs.Records.{isOf, enclavesBefore, enclaveBefore};
 ghost use Rattle.federate.specs.Enclaves.{indexFrom, imageAt, orderChecks, recordChecks, linksBefore};
+ghost use Rattle.schema.specs.Rows.{Whole};
 use crate::records;
 use answers::Outcome;
 use answers::kind;
@@ -29,7 +30,7 @@ fn index_from(start: u64, place: u32) -> u32
 
 // The answer of the enclave of record n, by its own pack.
 fn check_enclave_at<'a>(pack: &'a [u8], batch: &'a [u8], house: &'a [u8], n: u32) -> EnclaveAnswer
-    requires { ⌜ n < recordsOf (now pack) ⌝ }
+    requires { ⌜ (n < recordsOf (now pack)) × Whole (now pack) ⌝ }
     ensures { λ r. ⌜ r ≡ imageResult (imageAt (now (pack .entry)) (now (batch .entry)) (now (house .entry)) n) ⌝ }
 {
     let own = records::enclave_pack(pack, n);
@@ -47,7 +48,7 @@ fn check_order<'a>(
     place: u32,
     before: u32,
 ) -> Outcome
-    requires { ⌜ (place ≡ enclavesBefore (now pack) n) × (before ≡ enclaveBefore (now pack) n) ⌝ }
+    requires { ⌜ (place ≡ enclavesBefore (now pack) n) × (before ≡ enclaveBefore (now pack) n) × Whole (now pack) ⌝ }
     ensures { λ r. ⌜ Decides (orderChecks (now (pack .entry)) (now (batch .entry)) (now (house .entry)) start n) r ⌝ }
 {
     if place == 0 {
@@ -73,7 +74,7 @@ fn check_record<'a>(
     place: u32,
     before: u32,
 ) -> EnclaveAnswer
-    requires { ⌜ (n < recordsOf (now pack)) × ((isOf (now pack) 1 n ≡ true) × ((place ≡ enclavesBefore (now pack) n) × (before ≡ enclaveBefore (now pack) n))) ⌝ }
+    requires { ⌜ (n < recordsOf (now pack)) × ((isOf (now pack) 1 n ≡ true) × ((place ≡ enclavesBefore (now pack) n) × (before ≡ enclaveBefore (now pack) n))) × Whole (now pack) ⌝ }
     ensures { λ r. ⌜ r ≡ answerOf (first (recordChecks (now (pack .entry)) (now (batch .entry)) (now (house .entry)) start n)) (links (imageAt (now (pack .entry)) (now (batch .entry)) (now (house .entry)) n)) ⌝ }
 {
     let answer = check_enclave_at(pack, batch, house, n);
@@ -94,6 +95,7 @@ pub fn validate_federate_enclaves<'a>(
     house: &'a [u8],
     start: u64,
 ) -> EnclaveAnswer
+    requires { ⌜ Whole (now pack) ⌝ }
     ensures { λ r. ⌜ r ≡ answerOf (first (run (recordChecks (now (pack .entry)) (now (batch .entry)) (now (house .entry)) start) 0 (recordsOf (now (pack .entry))))) (linksBefore (now (pack .entry)) (now (batch .entry)) (now (house .entry)) (recordsOf (now (pack .entry)))) ⌝ }
 {
     let records = records::records_of(pack);

@@ -3,6 +3,7 @@ ghost use mathlib.Core.Path.{_≡_};
 ghost use Prim.Native.Nat.{_<_};
 ghost use Rattle.packing.specs.Starts.{recordsOf};
 ghost use Rattle.federate.specs.Records.{isOf, countBelow, enclavesOf, enclaveEnd, enclavePack};
+ghost use Rattle.schema.specs.Rows.{Whole};
 use schema::parts;
 use schema::rows::EnclaveImage;
 
@@ -21,6 +22,7 @@ pub fn records_of(pack: &[u8]) -> u32
 
 // Whether record n is of a table.
 pub fn is_of(pack: &[u8], table: u8, n: u32) -> bool
+    requires { ⌜ Whole (now pack) ⌝ }
     ensures { λ r. ⌜ r ≡ isOf (now (pack .entry)) table n ⌝ }
 {
     parts::byte_at(pack, n as usize, 0) == table
@@ -28,6 +30,7 @@ pub fn is_of(pack: &[u8], table: u8, n: u32) -> bool
 
 // How many records of a table the pack has.
 pub fn count_of(pack: &[u8], table: u8) -> u32
+    requires { ⌜ Whole (now pack) ⌝ }
     ensures { λ r. ⌜ r ≡ countBelow (isOf (now (pack .entry)) table) (recordsOf (now (pack .entry))) ⌝ }
 {
     let records = records_of(pack);
@@ -45,6 +48,7 @@ pub fn count_of(pack: &[u8], table: u8) -> u32
 
 // How many enclaves the pack has.
 pub fn count_enclaves(pack: &[u8]) -> u32
+    requires { ⌜ Whole (now pack) ⌝ }
     ensures { λ r. ⌜ r ≡ enclavesOf (now (pack .entry)) ⌝ }
 {
     count_of(pack, EnclaveImage::TABLE)
@@ -52,7 +56,7 @@ pub fn count_enclaves(pack: &[u8]) -> u32
 
 // Where the enclave of record n ends.
 fn enclave_end(pack: &[u8], n: u32) -> u32
-    requires { ⌜ n < recordsOf (now pack) ⌝ }
+    requires { ⌜ (n < recordsOf (now pack)) × Whole (now pack) ⌝ }
     ensures { λ r. ⌜ r ≡ enclaveEnd (now (pack .entry)) n ⌝ }
 {
     let records = records_of(pack);
@@ -68,7 +72,7 @@ fn enclave_end(pack: &[u8], n: u32) -> u32
 
 // The pack of the enclave of record n: its records up to its end.
 pub fn enclave_pack(pack: &[u8], n: u32) -> &[u8]
-    requires { ⌜ n < recordsOf (now pack) ⌝ }
+    requires { ⌜ (n < recordsOf (now pack)) × Whole (now pack) ⌝ }
     ensures { λ r. ⌜ now r ≡ enclavePack (now (pack .entry)) n ⌝ }
 {
     let end = enclave_end(pack, n);

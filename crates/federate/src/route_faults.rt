@@ -5,7 +5,7 @@ ghost use Prim.Native.Nat.{_<_, _≤_};
 ghost use lib.ListN.{length};
 ghost use Rattle.identity.specs.Text.{identityText};
 ghost use Rattle.identity.specs.Order.{compared};
-ghost use Rattle.schema.specs.Rows.{routeAt};
+ghost use Rattle.schema.specs.Rows.{Whole, routeAt};
 ghost use Rattle.packing.specs.Starts.{recordsOf};
 ghost use Rattle.checks.specs.Identities.{isEqual};
 ghost use Rattle.federate.specs.Records.{isOf, countBelow};
@@ -27,7 +27,7 @@ const MAX_ROUTES: usize = 65536;
 
 // The records of a table, in their order.
 fn list(pack: &[u8], table: u8, rows: &mut [u32])
-    requires { ⌜ length (now rows) ≡ countBelow (isOf (now pack) table) (recordsOf (now pack)) ⌝ }
+    requires { ⌜ (length (now rows) ≡ countBelow (isOf (now pack) table) (recordsOf (now pack))) × Whole (now pack) ⌝ }
     ensures { λ _. ⌜ Listed (now (pack .entry)) table (now (rows .exit)) ⌝ }
 {
     let records = records::records_of(pack);
@@ -60,6 +60,7 @@ fn are_halves(a: RouteImage, b: RouteImage) -> bool
 
 // The same of records a and b.
 fn are_halves_at(pack: &[u8], a: u32, b: u32) -> bool
+    requires { ⌜ Whole (now pack) ⌝ }
     ensures { λ r. ⌜ r ≡ areHalves (routeAt (now (pack .entry)) a) (routeAt (now (pack .entry)) b) ⌝ }
 {
     are_halves(
@@ -70,6 +71,7 @@ fn are_halves_at(pack: &[u8], a: u32, b: u32) -> bool
 
 // Whether records a and b are of two boundaries.
 fn are_apart<'a>(pack: &'a [u8], batch: &'a [u8], house: &'a [u8], a: u32, b: u32) -> bool
+    requires { ⌜ Whole (now pack) ⌝ }
     ensures { λ r. ⌜ r ≡ not (isEqual (compared (boundaryAt (identityText (now (batch .entry)) (now (house .entry))) (now (pack .entry)) a) (boundaryAt (identityText (now (batch .entry)) (now (house .entry))) (now (pack .entry)) b))) ⌝ }
 {
     let order = route_sort::order_of(pack, batch, house, a, b);
@@ -82,7 +84,7 @@ fn are_apart<'a>(pack: &'a [u8], batch: &'a [u8], house: &'a [u8], a: u32, b: u3
 
 // Whether the row at place k is alone in its boundary, or its other half follows and no third.
 fn fits<'a>(pack: &'a [u8], batch: &'a [u8], house: &'a [u8], rows: &[u32], k: usize) -> bool
-    requires { ⌜ k < length (now rows) ⌝ }
+    requires { ⌜ (k < length (now rows)) × Whole (now pack) ⌝ }
     ensures { λ r. ⌜ Tells (Fits (identityText (now (batch .entry)) (now (house .entry))) (now (pack .entry)) (now (rows .entry)) k) r ⌝ }
 {
     let next = k + 1;
@@ -106,6 +108,7 @@ fn fits<'a>(pack: &'a [u8], batch: &'a [u8], house: &'a [u8], rows: &[u32], k: u
 
 // The smallest row that does not fit where it stands; the number of records where all fit.
 fn least_misfit<'a>(pack: &'a [u8], batch: &'a [u8], house: &'a [u8], rows: &[u32]) -> u32
+    requires { ⌜ Whole (now pack) ⌝ }
     ensures { λ r. ⌜ Scanned (identityText (now (batch .entry)) (now (house .entry))) (now (pack .entry)) (now (rows .entry)) (length (now (rows .entry))) r ⌝ }
 {
     let records = records::records_of(pack);
@@ -132,7 +135,7 @@ fn fault_in<'a>(
     rows: &mut [u32],
     spare: &mut [u32],
 ) -> u32
-    requires { ⌜ (length (now rows) ≡ countBelow (isOf (now pack) 23) (recordsOf (now pack))) × (length (now rows) ≤ length (now spare)) ⌝ }
+    requires { ⌜ (length (now rows) ≡ countBelow (isOf (now pack) 23) (recordsOf (now pack))) × (length (now rows) ≤ length (now spare)) × Whole (now pack) ⌝ }
     ensures { λ r. ⌜ FirstFault (routeRecordChecks (identityText (now (batch .entry)) (now (house .entry))) (now (pack .entry))) r (recordsOf (now (pack .entry))) ⌝ }
 {
     list(pack, RouteImage::TABLE, rows);
@@ -149,7 +152,7 @@ fn fault_within<'a>(
     spare: &mut [u32],
     routes: usize,
 ) -> u32
-    requires { ⌜ (routes ≡ countBelow (isOf (now pack) 23) (recordsOf (now pack))) × (routes ≤ length (now rows)) × (length (now rows) ≤ length (now spare)) ⌝ }
+    requires { ⌜ (routes ≡ countBelow (isOf (now pack) 23) (recordsOf (now pack))) × (routes ≤ length (now rows)) × (length (now rows) ≤ length (now spare)) × Whole (now pack) ⌝ }
     ensures { λ r. ⌜ FirstFault (routeRecordChecks (identityText (now (batch .entry)) (now (house .entry))) (now (pack .entry))) r (recordsOf (now (pack .entry))) ⌝ }
 {
     fault_in(pack, batch, house, &mut rows[..routes], spare)
@@ -165,7 +168,7 @@ fn fault_by<'a>(
     spare: &mut [u32],
     routes: usize,
 ) -> u32
-    requires { ⌜ (routes ≡ countBelow (isOf (now pack) 23) (recordsOf (now pack))) × (routes ≤ 65536) × (length (now rows) ≤ length (now spare)) ⌝ }
+    requires { ⌜ (routes ≡ countBelow (isOf (now pack) 23) (recordsOf (now pack))) × (routes ≤ 65536) × (length (now rows) ≤ length (now spare)) × Whole (now pack) ⌝ }
     ensures { λ r. ⌜ FirstFault (routeRecordChecks (identityText (now (batch .entry)) (now (house .entry))) (now (pack .entry))) r (recordsOf (now (pack .entry))) ⌝ }
 {
     if rows.len() < routes {
@@ -190,7 +193,7 @@ fn fault_some<'a>(
     spare: &mut [u32],
     routes: usize,
 ) -> u32
-    requires { ⌜ (routes ≡ countBelow (isOf (now pack) 23) (recordsOf (now pack))) × (routes ≤ 1024) × (length (now rows) ≤ length (now spare)) ⌝ }
+    requires { ⌜ (routes ≡ countBelow (isOf (now pack) 23) (recordsOf (now pack))) × (routes ≤ 1024) × (length (now rows) ≤ length (now spare)) × Whole (now pack) ⌝ }
     ensures { λ r. ⌜ FirstFault (routeRecordChecks (identityText (now (batch .entry)) (now (house .entry))) (now (pack .entry))) r (recordsOf (now (pack .entry))) ⌝ }
 {
     if rows.len() < routes {
@@ -208,7 +211,7 @@ fn fault_some<'a>(
 
 // The first record at fault of a pack with so many routes; the number of records where none is.
 pub fn first_fault<'a>(pack: &'a [u8], batch: &'a [u8], house: &'a [u8], routes: u32) -> u32
-    requires { ⌜ routes ≡ countBelow (isOf (now pack) 23) (recordsOf (now pack)) ⌝ }
+    requires { ⌜ (routes ≡ countBelow (isOf (now pack) 23) (recordsOf (now pack))) × Whole (now pack) ⌝ }
     ensures { λ r. ⌜ FirstFault (routeRecordChecks (identityText (now (batch .entry)) (now (house .entry))) (now (pack .entry))) r (recordsOf (now (pack .entry))) ⌝ }
 {
     let n = routes as usize;

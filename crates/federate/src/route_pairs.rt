@@ -4,6 +4,7 @@ ghost use Rattle.identity.specs.Text.{identityText};
 ghost use Rattle.answers.specs.Checks.{run, Decides};
 ghost use Rattle.packing.specs.Starts.{recordsOf};
 ghost use Rattle.federate.specs.RoutePairs.{domainNumber, isHalf, halfAt, halves, pairChecks, routeRecordChecks};
+ghost use Rattle.schema.specs.Rows.{Whole};
 use crate::records;
 use crate::route_faults;
 use answers::Outcome;
@@ -59,6 +60,7 @@ fn half_at<'a>(
     half: Half,
     k: u32,
 ) -> bool
+    requires { ⌜ Whole (now pack) ⌝ }
     ensures { λ r. ⌜ r ≡ halfAt (identityText (now (batch .entry)) (now (house .entry))) (now (pack .entry)) route half k ⌝ }
 {
     if !records::is_of(pack, RouteImage::TABLE, k) {
@@ -81,6 +83,7 @@ fn count_halves<'a>(
     route: RouteImage,
     half: Half,
 ) -> u32
+    requires { ⌜ Whole (now pack) ⌝ }
     ensures { λ r. ⌜ r ≡ halves (identityText (now (batch .entry)) (now (house .entry))) (now (pack .entry)) route half ⌝ }
 {
     let records = records::records_of(pack);
@@ -98,6 +101,7 @@ fn count_halves<'a>(
 
 // One half in, one half out, of one domain and one delay.
 fn check_pair<'a>(pack: &'a [u8], batch: &'a [u8], house: &'a [u8], route: RouteImage) -> Outcome
+    requires { ⌜ Whole (now pack) ⌝ }
     ensures { λ r. ⌜ Decides (pairChecks (identityText (now (batch .entry)) (now (house .entry))) (now (pack .entry)) route) r ⌝ }
 {
     let boundary = route.boundary;
@@ -130,6 +134,7 @@ fn check_pair<'a>(pack: &'a [u8], batch: &'a [u8], house: &'a [u8], route: Route
 
 // The checks of record n.
 fn check_record<'a>(pack: &'a [u8], batch: &'a [u8], house: &'a [u8], n: u32) -> Outcome
+    requires { ⌜ Whole (now pack) ⌝ }
     ensures { λ r. ⌜ Decides (routeRecordChecks (identityText (now (batch .entry)) (now (house .entry))) (now (pack .entry)) n) r ⌝ }
 {
     if !records::is_of(pack, RouteImage::TABLE, n) {
@@ -140,6 +145,7 @@ fn check_record<'a>(pack: &'a [u8], batch: &'a [u8], house: &'a [u8], n: u32) ->
 
 // Every route of the pack, in the order of the records.
 fn check_each<'a>(pack: &'a [u8], batch: &'a [u8], house: &'a [u8]) -> Outcome
+    requires { ⌜ Whole (now pack) ⌝ }
     ensures { λ r. ⌜ Decides (run (routeRecordChecks (identityText (now (batch .entry)) (now (house .entry))) (now (pack .entry))) 0 (recordsOf (now (pack .entry)))) r ⌝ }
 {
     let records = records::records_of(pack);
@@ -160,6 +166,7 @@ pub fn validate_federate_route_pairs<'a>(
     batch: &'a [u8],
     house: &'a [u8],
 ) -> Outcome
+    requires { ⌜ Whole (now pack) ⌝ }
     ensures { λ r. ⌜ Decides (run (routeRecordChecks (identityText (now (batch .entry)) (now (house .entry))) (now (pack .entry))) 0 (recordsOf (now (pack .entry)))) r ⌝ }
 {
     let found = records::count_of(pack, RouteImage::TABLE);

@@ -5,11 +5,13 @@ ghost use lib.ListN.{length, take, drop};
 ghost use Rattle.identity.specs.Text.{identityText};
 ghost use Rattle.identity.specs.Order.{compared};
 ghost use Rattle.federate.specs.RouteOrder.{boundaryAt, before, Ordered, Merged, Sorted, Picks};
+ghost use Rattle.schema.specs.Rows.{Whole};
 use identity::ByteOrder;
 use schema::parts;
 
 // The order of the boundaries of records a and b.
 pub fn order_of<'a>(pack: &'a [u8], batch: &'a [u8], house: &'a [u8], a: u32, b: u32) -> ByteOrder
+    requires { ⌜ Whole (now pack) ⌝ }
     ensures { λ r. ⌜ r ≡ compared (boundaryAt (identityText (now (batch .entry)) (now (house .entry))) (now (pack .entry)) a) (boundaryAt (identityText (now (batch .entry)) (now (house .entry))) (now (pack .entry)) b) ⌝ }
 {
     let one = parts::route_boundary_at(pack, a as usize);
@@ -19,6 +21,7 @@ pub fn order_of<'a>(pack: &'a [u8], batch: &'a [u8], house: &'a [u8], a: u32, b:
 
 // Whether a comes before b, or is it: by its boundary, then by its number.
 fn is_before<'a>(pack: &'a [u8], batch: &'a [u8], house: &'a [u8], a: u32, b: u32) -> bool
+    requires { ⌜ Whole (now pack) ⌝ }
     ensures { λ r. ⌜ r ≡ before (boundaryAt (identityText (now (batch .entry)) (now (house .entry))) (now (pack .entry))) a b ⌝ }
 {
     let order = order_of(pack, batch, house, a, b);
@@ -39,7 +42,7 @@ fn picks_left<'a>(
     i: usize,
     j: usize,
 ) -> bool
-    requires { ⌜ i + j < length (now left) + length (now right) ⌝ }
+    requires { ⌜ (i + j < length (now left) + length (now right)) × Whole (now pack) ⌝ }
     ensures { λ r. ⌜ Picks (before (boundaryAt (identityText (now (batch .entry)) (now (house .entry))) (now (pack .entry)))) (now (left .entry)) (now (right .entry)) i j r ⌝ }
 {
     if i >= left.len() {
@@ -59,7 +62,7 @@ fn merge<'a>(
     right: &[u32],
     out: &mut [u32],
 )
-    requires { ⌜ (length (now left) + length (now right) ≡ length (now out)) × Ordered (before (boundaryAt (identityText (now batch) (now house)) (now pack))) (now left) × Ordered (before (boundaryAt (identityText (now batch) (now house)) (now pack))) (now right) ⌝ }
+    requires { ⌜ (length (now left) + length (now right) ≡ length (now out)) × Ordered (before (boundaryAt (identityText (now batch) (now house)) (now pack))) (now left) × Ordered (before (boundaryAt (identityText (now batch) (now house)) (now pack))) (now right) × Whole (now pack) ⌝ }
     ensures { λ _. ⌜ Merged (before (boundaryAt (identityText (now (batch .entry)) (now (house .entry))) (now (pack .entry)))) (now (left .entry)) (now (right .entry)) (now (out .exit)) ⌝ }
 {
     let mut i = 0;
@@ -97,7 +100,7 @@ fn merge_halves<'a>(
     mid: usize,
     out: &mut [u32],
 )
-    requires { ⌜ (length (now rows) ≡ length (now out)) × (mid ≤ length (now rows)) × Ordered (before (boundaryAt (identityText (now batch) (now house)) (now pack))) (take mid (now rows)) × Ordered (before (boundaryAt (identityText (now batch) (now house)) (now pack))) (drop mid (now rows)) ⌝ }
+    requires { ⌜ (length (now rows) ≡ length (now out)) × (mid ≤ length (now rows)) × Ordered (before (boundaryAt (identityText (now batch) (now house)) (now pack))) (take mid (now rows)) × Ordered (before (boundaryAt (identityText (now batch) (now house)) (now pack))) (drop mid (now rows)) × Whole (now pack) ⌝ }
     ensures { λ _. ⌜ Sorted (before (boundaryAt (identityText (now (batch .entry)) (now (house .entry))) (now (pack .entry)))) (now (rows .entry)) (now (out .exit)) ⌝ }
 {
     merge(pack, batch, house, &rows[..mid], &rows[mid..], out);
@@ -112,7 +115,7 @@ fn join<'a>(
     spare: &mut [u32],
     mid: usize,
 )
-    requires { ⌜ (length (now rows) ≤ length (now spare)) × (0 < mid) × (mid < length (now rows)) × Ordered (before (boundaryAt (identityText (now batch) (now house)) (now pack))) (take mid (now rows)) × Ordered (before (boundaryAt (identityText (now batch) (now house)) (now pack))) (drop mid (now rows)) ⌝ }
+    requires { ⌜ (length (now rows) ≤ length (now spare)) × (0 < mid) × (mid < length (now rows)) × Ordered (before (boundaryAt (identityText (now batch) (now house)) (now pack))) (take mid (now rows)) × Ordered (before (boundaryAt (identityText (now batch) (now house)) (now pack))) (drop mid (now rows)) × Whole (now pack) ⌝ }
     ensures { λ _. ⌜ Sorted (before (boundaryAt (identityText (now (batch .entry)) (now (house .entry))) (now (pack .entry)))) (now (rows .entry)) (now (rows .exit)) ⌝ }
 {
     if is_before(pack, batch, house, rows[mid - 1], rows[mid]) {
@@ -130,7 +133,7 @@ pub fn sort<'a>(
     rows: &mut [u32],
     spare: &mut [u32],
 )
-    requires { ⌜ length (now rows) ≤ length (now spare) ⌝ }
+    requires { ⌜ (length (now rows) ≤ length (now spare)) × Whole (now pack) ⌝ }
     ensures { λ _. ⌜ Sorted (before (boundaryAt (identityText (now (batch .entry)) (now (house .entry))) (now (pack .entry)))) (now (rows .entry)) (now (rows .exit)) ⌝ }
 {
     let n = rows.len();

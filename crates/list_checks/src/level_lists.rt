@@ -5,6 +5,7 @@ ghost use Rattle.answers.specs.Checks.{run, Decides};
 ghost use Rattle.answers.specs.PassesIf.{PassesIf};
 ghost use Rattle.checks.specs.Image.{image, rowsOf};
 ghost use Rattle.list_checks.specs.ListTables.{actionTriggerChecks, portTriggerChecks, scopeListChecks, levelEntryChecks, lifecycleEntryChecks, shutdownReactionChecks};
+ghost use Rattle.schema.specs.Rows.{Whole};
 use answers::Outcome;
 use checks::lists;
 use checks::refs;
@@ -22,6 +23,7 @@ use schema::rows::ScopeImage;
 
 // The triggers of action i.
 fn check_action_triggers(p: &[u8], s: &TableStarts, i: u32) -> Outcome
+    requires { ⌜ Whole (now p) ⌝ }
     ensures { λ r. ⌜ Decides (actionTriggerChecks (image (now (p .entry)) [] [] (now (s .entry)) 0) i) r ⌝ }
 {
     let range = parts::action_triggers_at(p, refs::row_number(s, ActionImage::TABLE, i));
@@ -30,6 +32,7 @@ fn check_action_triggers(p: &[u8], s: &TableStarts, i: u32) -> Outcome
 
 // The same as a quick test, whose answer stays in a register; a record past the pack is left to the full check.
 fn action_triggers_pass(p: &[u8], s: &TableStarts, i: u32) -> bool
+    requires { ⌜ Whole (now p) ⌝ }
     ensures { λ r. ⌜ PassesIf (actionTriggerChecks (image (now (p .entry)) [] [] (now (s .entry)) 0) i) r ⌝ }
 {
     let n = refs::row_number(s, ActionImage::TABLE, i);
@@ -42,6 +45,7 @@ fn action_triggers_pass(p: &[u8], s: &TableStarts, i: u32) -> bool
 
 // The triggers of every action.
 pub fn check_triggers_of_actions(p: &[u8], s: &TableStarts) -> Outcome
+    requires { ⌜ Whole (now p) ⌝ }
     ensures { λ r. ⌜ Decides (run (actionTriggerChecks (image (now (p .entry)) [] [] (now (s .entry)) 0)) 0 (rowsOf (now (s .entry)) 3)) r ⌝ }
 {
     let rows = refs::rows_of(s, ActionImage::TABLE);
@@ -61,6 +65,7 @@ pub fn check_triggers_of_actions(p: &[u8], s: &TableStarts) -> Outcome
 
 // The triggers of port i.
 fn check_port_triggers(p: &[u8], s: &TableStarts, i: u32) -> Outcome
+    requires { ⌜ Whole (now p) ⌝ }
     ensures { λ r. ⌜ Decides (portTriggerChecks (image (now (p .entry)) [] [] (now (s .entry)) 0) i) r ⌝ }
 {
     let range = parts::port_triggers_at(p, refs::row_number(s, PortImage::TABLE, i));
@@ -69,6 +74,7 @@ fn check_port_triggers(p: &[u8], s: &TableStarts, i: u32) -> Outcome
 
 // The same as a quick test, whose answer stays in a register; a record past the pack is left to the full check.
 fn port_triggers_pass(p: &[u8], s: &TableStarts, i: u32) -> bool
+    requires { ⌜ Whole (now p) ⌝ }
     ensures { λ r. ⌜ PassesIf (portTriggerChecks (image (now (p .entry)) [] [] (now (s .entry)) 0) i) r ⌝ }
 {
     let n = refs::row_number(s, PortImage::TABLE, i);
@@ -81,6 +87,7 @@ fn port_triggers_pass(p: &[u8], s: &TableStarts, i: u32) -> bool
 
 // The triggers of every port.
 pub fn check_triggers_of_ports(p: &[u8], s: &TableStarts) -> Outcome
+    requires { ⌜ Whole (now p) ⌝ }
     ensures { λ r. ⌜ Decides (run (portTriggerChecks (image (now (p .entry)) [] [] (now (s .entry)) 0)) 0 (rowsOf (now (s .entry)) 4)) r ⌝ }
 {
     let rows = refs::rows_of(s, PortImage::TABLE);
@@ -100,6 +107,7 @@ pub fn check_triggers_of_ports(p: &[u8], s: &TableStarts) -> Outcome
 
 // The reset, startup and shutdown reactions of scope i.
 fn check_scope_lists(p: &[u8], s: &TableStarts, i: u32) -> Outcome
+    requires { ⌜ Whole (now p) ⌝ }
     ensures { λ r. ⌜ Decides (scopeListChecks (image (now (p .entry)) [] [] (now (s .entry)) 0) i) r ⌝ }
 {
     let n = refs::row_number(s, ScopeImage::TABLE, i);
@@ -118,6 +126,7 @@ fn check_scope_lists(p: &[u8], s: &TableStarts, i: u32) -> Outcome
 
 // The lists of every scope.
 pub fn check_lists_of_scopes(p: &[u8], s: &TableStarts) -> Outcome
+    requires { ⌜ Whole (now p) ⌝ }
     ensures { λ r. ⌜ Decides (run (scopeListChecks (image (now (p .entry)) [] [] (now (s .entry)) 0)) 0 (rowsOf (now (s .entry)) 7)) r ⌝ }
 {
     let rows = refs::rows_of(s, ScopeImage::TABLE);
@@ -134,7 +143,7 @@ pub fn check_lists_of_scopes(p: &[u8], s: &TableStarts) -> Outcome
 
 // Entry i of a table of reactions by level.
 fn check_level_entry(p: &[u8], s: &TableStarts, table: u8, i: u32) -> Outcome
-    requires { ⌜ table < 25 ⌝ }
+    requires { ⌜ Whole (now p) × (table < 25) ⌝ }
     ensures { λ r. ⌜ Decides (levelEntryChecks table (image (now (p .entry)) [] [] (now (s .entry)) 0) i) r ⌝ }
 {
     let entry = read_lists::level_at(p, refs::row_number(s, table, i));
@@ -143,7 +152,7 @@ fn check_level_entry(p: &[u8], s: &TableStarts, table: u8, i: u32) -> Outcome
 
 // The entries of a table, so many.
 fn level_entries(p: &[u8], s: &TableStarts, table: u8, rows: u32) -> Outcome
-    requires { ⌜ table < 25 ⌝ }
+    requires { ⌜ Whole (now p) × (table < 25) ⌝ }
     ensures { λ r. ⌜ Decides (run (levelEntryChecks table (image (now (p .entry)) [] [] (now (s .entry)) 0)) 0 rows) r ⌝ }
 {
     let mut i = 0;
@@ -159,7 +168,7 @@ fn level_entries(p: &[u8], s: &TableStarts, table: u8, rows: u32) -> Outcome
 
 // Every entry of a table of reactions by level, whether or not some range covers it. An empty table costs its count alone.
 pub fn check_level_entries(p: &[u8], s: &TableStarts, table: u8) -> Outcome
-    requires { ⌜ table < 25 ⌝ }
+    requires { ⌜ Whole (now p) × (table < 25) ⌝ }
     ensures { λ r. ⌜ Decides (run (levelEntryChecks table (image (now (p .entry)) [] [] (now (s .entry)) 0)) 0 (rowsOf (now (s .entry)) table)) r ⌝ }
 {
     let rows = refs::rows_of(s, table);
@@ -171,7 +180,7 @@ pub fn check_level_entries(p: &[u8], s: &TableStarts, table: u8) -> Outcome
 
 // Entry i of a table of lifecycle reactions.
 fn check_lifecycle_entry(p: &[u8], s: &TableStarts, table: u8, i: u32) -> Outcome
-    requires { ⌜ table < 25 ⌝ }
+    requires { ⌜ Whole (now p) × (table < 25) ⌝ }
     ensures { λ r. ⌜ Decides (lifecycleEntryChecks table (image (now (p .entry)) [] [] (now (s .entry)) 0) i) r ⌝ }
 {
     let entry = read_lists::lifecycle_at(p, refs::row_number(s, table, i));
@@ -185,7 +194,7 @@ fn check_lifecycle_entry(p: &[u8], s: &TableStarts, table: u8, i: u32) -> Outcom
 
 // The entries of a table, so many.
 fn lifecycle_entries(p: &[u8], s: &TableStarts, table: u8, rows: u32) -> Outcome
-    requires { ⌜ table < 25 ⌝ }
+    requires { ⌜ Whole (now p) × (table < 25) ⌝ }
     ensures { λ r. ⌜ Decides (run (lifecycleEntryChecks table (image (now (p .entry)) [] [] (now (s .entry)) 0)) 0 rows) r ⌝ }
 {
     let mut i = 0;
@@ -201,7 +210,7 @@ fn lifecycle_entries(p: &[u8], s: &TableStarts, table: u8, rows: u32) -> Outcome
 
 // Every entry of a table of lifecycle reactions, in the same way.
 pub fn check_lifecycle_entries(p: &[u8], s: &TableStarts, table: u8) -> Outcome
-    requires { ⌜ table < 25 ⌝ }
+    requires { ⌜ Whole (now p) × (table < 25) ⌝ }
     ensures { λ r. ⌜ Decides (run (lifecycleEntryChecks table (image (now (p .entry)) [] [] (now (s .entry)) 0)) 0 (rowsOf (now (s .entry)) table)) r ⌝ }
 {
     let rows = refs::rows_of(s, table);
@@ -213,6 +222,7 @@ pub fn check_lifecycle_entries(p: &[u8], s: &TableStarts, table: u8) -> Outcome
 
 // The shutdown reactions: one list over the whole table.
 pub fn check_shutdown_reactions(p: &[u8], s: &TableStarts) -> Outcome
+    requires { ⌜ Whole (now p) ⌝ }
     ensures { λ r. ⌜ Decides (run (shutdownReactionChecks (image (now (p .entry)) [] [] (now (s .entry)) 0)) 0 (rowsOf (now (s .entry)) 21)) r ⌝ }
 {
     let table = ShutdownReaction::TABLE;

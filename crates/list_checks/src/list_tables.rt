@@ -6,6 +6,7 @@ ghost use Rattle.checks.specs.Image.{image, rowsOf, modesAt};
 ghost use Rattle.checks.specs.Refs.{refTo};
 ghost use Rattle.list_checks.specs.ListTables.{indexChecks, startupChecks, enabledModeChecks, enabledModesChecks, indexOrderChecks, shutdownActionChecks, indexesAt};
 ghost use Rattle.list_checks.specs.FirstPast.{firstWord, FirstPast};
+ghost use Rattle.schema.specs.Rows.{Whole};
 use answers::Outcome;
 use answers::Refusal;
 use answers::field;
@@ -59,7 +60,7 @@ fn check_mode(s: &TableStarts, table: u8, index: u32, key: ModeIndex) -> Outcome
 
 // The first entry of `table` whose index, its first W, is past the table `target`; the table's length where there is none.
 fn first_past(p: &[u8], s: &TableStarts, table: u8, target: u8) -> u32
-    requires { ⌜ (table < 25) × (target < 25) ⌝ }
+    requires { ⌜ Whole (now p) × ((table < 25) × (target < 25)) ⌝ }
     ensures { λ r. ⌜ FirstPast (firstWord (now (p .entry)) (now (s .entry)) table) (rowsOf (now (s .entry)) target) (rowsOf (now (s .entry)) table) r ⌝ }
 {
     let rows = refs::rows_of(s, table);
@@ -76,6 +77,7 @@ fn first_past(p: &[u8], s: &TableStarts, table: u8, target: u8) -> u32
 
 // Each table's entries are looked through at once; the one that is refused is looked up as itself.
 fn check_use_port(p: &[u8], s: &TableStarts, i: u32) -> Outcome
+    requires { ⌜ Whole (now p) ⌝ }
     ensures { λ r. ⌜ Decides (indexChecks 9 30 4 (image (now (p .entry)) [] [] (now (s .entry)) 0) i) r ⌝ }
 {
     let n = refs::row_number(s, ReactionUsePort::TABLE, i);
@@ -84,6 +86,7 @@ fn check_use_port(p: &[u8], s: &TableStarts, i: u32) -> Outcome
 }
 
 pub fn check_use_ports(p: &[u8], s: &TableStarts) -> Outcome
+    requires { ⌜ Whole (now p) ⌝ }
     ensures { λ r. ⌜ Decides (run (indexChecks 9 30 4 (image (now (p .entry)) [] [] (now (s .entry)) 0)) 0 (rowsOf (now (s .entry)) 9)) r ⌝ }
 {
     let i = first_past(p, s, ReactionUsePort::TABLE, PortImage::TABLE);
@@ -94,6 +97,7 @@ pub fn check_use_ports(p: &[u8], s: &TableStarts) -> Outcome
 }
 
 fn check_effect_port(p: &[u8], s: &TableStarts, i: u32) -> Outcome
+    requires { ⌜ Whole (now p) ⌝ }
     ensures { λ r. ⌜ Decides (indexChecks 10 30 4 (image (now (p .entry)) [] [] (now (s .entry)) 0) i) r ⌝ }
 {
     let n = refs::row_number(s, ReactionEffectPort::TABLE, i);
@@ -102,6 +106,7 @@ fn check_effect_port(p: &[u8], s: &TableStarts, i: u32) -> Outcome
 }
 
 pub fn check_effect_ports(p: &[u8], s: &TableStarts) -> Outcome
+    requires { ⌜ Whole (now p) ⌝ }
     ensures { λ r. ⌜ Decides (run (indexChecks 10 30 4 (image (now (p .entry)) [] [] (now (s .entry)) 0)) 0 (rowsOf (now (s .entry)) 10)) r ⌝ }
 {
     let i = first_past(p, s, ReactionEffectPort::TABLE, PortImage::TABLE);
@@ -112,6 +117,7 @@ pub fn check_effect_ports(p: &[u8], s: &TableStarts) -> Outcome
 }
 
 fn check_reaction_action(p: &[u8], s: &TableStarts, i: u32) -> Outcome
+    requires { ⌜ Whole (now p) ⌝ }
     ensures { λ r. ⌜ Decides (indexChecks 11 29 3 (image (now (p .entry)) [] [] (now (s .entry)) 0) i) r ⌝ }
 {
     let n = refs::row_number(s, ReactionAction::TABLE, i);
@@ -120,6 +126,7 @@ fn check_reaction_action(p: &[u8], s: &TableStarts, i: u32) -> Outcome
 }
 
 pub fn check_reaction_actions(p: &[u8], s: &TableStarts) -> Outcome
+    requires { ⌜ Whole (now p) ⌝ }
     ensures { λ r. ⌜ Decides (run (indexChecks 11 29 3 (image (now (p .entry)) [] [] (now (s .entry)) 0)) 0 (rowsOf (now (s .entry)) 11)) r ⌝ }
 {
     let i = first_past(p, s, ReactionAction::TABLE, ActionImage::TABLE);
@@ -130,6 +137,7 @@ pub fn check_reaction_actions(p: &[u8], s: &TableStarts) -> Outcome
 }
 
 fn check_reaction_mode(p: &[u8], s: &TableStarts, i: u32) -> Outcome
+    requires { ⌜ Whole (now p) ⌝ }
     ensures { λ r. ⌜ Decides (indexChecks 12 20 6 (image (now (p .entry)) [] [] (now (s .entry)) 0) i) r ⌝ }
 {
     let n = refs::row_number(s, ReactionMode::TABLE, i);
@@ -138,6 +146,7 @@ fn check_reaction_mode(p: &[u8], s: &TableStarts, i: u32) -> Outcome
 }
 
 pub fn check_reaction_modes(p: &[u8], s: &TableStarts) -> Outcome
+    requires { ⌜ Whole (now p) ⌝ }
     ensures { λ r. ⌜ Decides (run (indexChecks 12 20 6 (image (now (p .entry)) [] [] (now (s .entry)) 0)) 0 (rowsOf (now (s .entry)) 12)) r ⌝ }
 {
     let i = first_past(p, s, ReactionMode::TABLE, ModeImage::TABLE);
@@ -148,6 +157,7 @@ pub fn check_reaction_modes(p: &[u8], s: &TableStarts) -> Outcome
 }
 
 fn check_descendant(p: &[u8], s: &TableStarts, i: u32) -> Outcome
+    requires { ⌜ Whole (now p) ⌝ }
     ensures { λ r. ⌜ Decides (indexChecks 13 6 7 (image (now (p .entry)) [] [] (now (s .entry)) 0) i) r ⌝ }
 {
     let n = refs::row_number(s, ScopeDescendant::TABLE, i);
@@ -156,6 +166,7 @@ fn check_descendant(p: &[u8], s: &TableStarts, i: u32) -> Outcome
 }
 
 pub fn check_descendants(p: &[u8], s: &TableStarts) -> Outcome
+    requires { ⌜ Whole (now p) ⌝ }
     ensures { λ r. ⌜ Decides (run (indexChecks 13 6 7 (image (now (p .entry)) [] [] (now (s .entry)) 0)) 0 (rowsOf (now (s .entry)) 13)) r ⌝ }
 {
     let i = first_past(p, s, ScopeDescendant::TABLE, ScopeImage::TABLE);
@@ -166,6 +177,7 @@ pub fn check_descendants(p: &[u8], s: &TableStarts) -> Outcome
 }
 
 fn check_logical_action(p: &[u8], s: &TableStarts, i: u32) -> Outcome
+    requires { ⌜ Whole (now p) ⌝ }
     ensures { λ r. ⌜ Decides (indexChecks 14 29 3 (image (now (p .entry)) [] [] (now (s .entry)) 0) i) r ⌝ }
 {
     let n = refs::row_number(s, ScopeLogicalAction::TABLE, i);
@@ -174,6 +186,7 @@ fn check_logical_action(p: &[u8], s: &TableStarts, i: u32) -> Outcome
 }
 
 pub fn check_logical_actions(p: &[u8], s: &TableStarts) -> Outcome
+    requires { ⌜ Whole (now p) ⌝ }
     ensures { λ r. ⌜ Decides (run (indexChecks 14 29 3 (image (now (p .entry)) [] [] (now (s .entry)) 0)) 0 (rowsOf (now (s .entry)) 14)) r ⌝ }
 {
     let i = first_past(p, s, ScopeLogicalAction::TABLE, ActionImage::TABLE);
@@ -184,6 +197,7 @@ pub fn check_logical_actions(p: &[u8], s: &TableStarts) -> Outcome
 }
 
 fn check_timer_startup(p: &[u8], s: &TableStarts, i: u32) -> Outcome
+    requires { ⌜ Whole (now p) ⌝ }
     ensures { λ r. ⌜ Decides (startupChecks 15 (image (now (p .entry)) [] [] (now (s .entry)) 0) i) r ⌝ }
 {
     let n = refs::row_number(s, ScopeTimerStartup::TABLE, i);
@@ -193,6 +207,7 @@ fn check_timer_startup(p: &[u8], s: &TableStarts, i: u32) -> Outcome
 }
 
 pub fn check_timer_startups(p: &[u8], s: &TableStarts) -> Outcome
+    requires { ⌜ Whole (now p) ⌝ }
     ensures { λ r. ⌜ Decides (run (startupChecks 15 (image (now (p .entry)) [] [] (now (s .entry)) 0)) 0 (rowsOf (now (s .entry)) 15)) r ⌝ }
 {
     let i = first_past(p, s, ScopeTimerStartup::TABLE, ActionImage::TABLE);
@@ -203,6 +218,7 @@ pub fn check_timer_startups(p: &[u8], s: &TableStarts) -> Outcome
 }
 
 fn check_startup_action(p: &[u8], s: &TableStarts, i: u32) -> Outcome
+    requires { ⌜ Whole (now p) ⌝ }
     ensures { λ r. ⌜ Decides (startupChecks 19 (image (now (p .entry)) [] [] (now (s .entry)) 0) i) r ⌝ }
 {
     let n = refs::row_number(s, StartupAction::TABLE, i);
@@ -212,6 +228,7 @@ fn check_startup_action(p: &[u8], s: &TableStarts, i: u32) -> Outcome
 }
 
 pub fn check_startup_actions(p: &[u8], s: &TableStarts) -> Outcome
+    requires { ⌜ Whole (now p) ⌝ }
     ensures { λ r. ⌜ Decides (run (startupChecks 19 (image (now (p .entry)) [] [] (now (s .entry)) 0)) 0 (rowsOf (now (s .entry)) 19)) r ⌝ }
 {
     let i = first_past(p, s, StartupAction::TABLE, ActionImage::TABLE);
@@ -222,6 +239,7 @@ pub fn check_startup_actions(p: &[u8], s: &TableStarts) -> Outcome
 }
 
 fn check_timer_startup_action(p: &[u8], s: &TableStarts, i: u32) -> Outcome
+    requires { ⌜ Whole (now p) ⌝ }
     ensures { λ r. ⌜ Decides (startupChecks 20 (image (now (p .entry)) [] [] (now (s .entry)) 0) i) r ⌝ }
 {
     let n = refs::row_number(s, TimerStartupAction::TABLE, i);
@@ -231,6 +249,7 @@ fn check_timer_startup_action(p: &[u8], s: &TableStarts, i: u32) -> Outcome
 }
 
 pub fn check_timer_startup_actions(p: &[u8], s: &TableStarts) -> Outcome
+    requires { ⌜ Whole (now p) ⌝ }
     ensures { λ r. ⌜ Decides (run (startupChecks 20 (image (now (p .entry)) [] [] (now (s .entry)) 0)) 0 (rowsOf (now (s .entry)) 20)) r ⌝ }
 {
     let i = first_past(p, s, TimerStartupAction::TABLE, ActionImage::TABLE);
@@ -249,6 +268,7 @@ fn check_enabled_mode(
     start: u32,
     k: u32,
 ) -> Outcome
+    requires { ⌜ Whole (now p) ⌝ }
     ensures { λ r. ⌜ Decides (enabledModeChecks (rowsOf (now (s .entry))) (modesAt (now (p .entry)) (now (s .entry))) (indexesAt (now (p .entry)) (now (s .entry))) i (reactor .0) start k) r ⌝ }
 {
     let index = lists::entry_index(start, k);
@@ -272,6 +292,7 @@ fn check_enabled_mode(
 
 // The enabled modes of reaction i.
 fn check_enabled_modes(p: &[u8], s: &TableStarts, i: u32) -> Outcome
+    requires { ⌜ Whole (now p) ⌝ }
     ensures { λ r. ⌜ Decides (enabledModesChecks (image (now (p .entry)) [] [] (now (s .entry)) 0) i) r ⌝ }
 {
     let n = refs::row_number(s, ReactionImage::TABLE, i);
@@ -292,6 +313,7 @@ fn check_enabled_modes(p: &[u8], s: &TableStarts, i: u32) -> Outcome
 
 // The enabled modes of every reaction.
 pub fn check_modes_of_reactions(p: &[u8], s: &TableStarts) -> Outcome
+    requires { ⌜ Whole (now p) ⌝ }
     ensures { λ r. ⌜ Decides (run (enabledModesChecks (image (now (p .entry)) [] [] (now (s .entry)) 0)) 0 (rowsOf (now (s .entry)) 5)) r ⌝ }
 {
     let rows = refs::rows_of(s, ReactionImage::TABLE);
@@ -320,6 +342,7 @@ fn check_index_order(table: u8, index: u32, key: u32, before: u32) -> Outcome
 
 // Entry i of the shutdown actions, against the one before.
 fn check_shutdown_action(p: &[u8], s: &TableStarts, i: u32) -> Outcome
+    requires { ⌜ Whole (now p) ⌝ }
     ensures { λ r. ⌜ Decides (shutdownActionChecks (image (now (p .entry)) [] [] (now (s .entry)) 0) i) r ⌝ }
 {
     let table = ShutdownAction::TABLE;
@@ -339,6 +362,7 @@ fn check_shutdown_action(p: &[u8], s: &TableStarts, i: u32) -> Outcome
 
 // Every shutdown action.
 pub fn check_shutdown_actions(p: &[u8], s: &TableStarts) -> Outcome
+    requires { ⌜ Whole (now p) ⌝ }
     ensures { λ r. ⌜ Decides (run (shutdownActionChecks (image (now (p .entry)) [] [] (now (s .entry)) 0)) 0 (rowsOf (now (s .entry)) 22)) r ⌝ }
 {
     let rows = refs::rows_of(s, ShutdownAction::TABLE);

@@ -8,6 +8,7 @@ ghost use Prim.Native.Nat.{_-_};
 ghost use Rattle.checks.specs.Lists.{afterFirst};
 ghost use Rattle.checks.specs.PassedOver.{PassedOver};
 ghost use Rattle.list_checks.specs.Routes.{directionNumber, sameBoundaryChecks, routeOrderChecks, routesAt, routeChecks, bindingIdChecks};
+ghost use Rattle.schema.specs.Rows.{Whole};
 use answers::Outcome;
 use answers::Refusal;
 use answers::field;
@@ -89,6 +90,7 @@ fn check_route_after<'a>(
     i: u32,
     route: RouteImage,
 ) -> Outcome
+    requires { ⌜ Whole (now p) ⌝ }
     ensures { λ r. ⌜ Decides (afterFirst i (routeOrderChecks (identityText (now (batch .entry)) (now (house .entry))) i (route .boundary) (route .direction) (routesAt (now (p .entry)) (now (s .entry)) (i - 1) .boundary) (routesAt (now (p .entry)) (now (s .entry)) (i - 1) .direction))) r ⌝ }
 {
     if i == 0 {
@@ -106,6 +108,7 @@ fn check_route<'a>(
     s: &'a TableStarts,
     i: u32,
 ) -> Outcome
+    requires { ⌜ Whole (now p) ⌝ }
     ensures { λ r. ⌜ Decides (routeChecks (image (now (p .entry)) (now (batch .entry)) (now (house .entry)) (now (s .entry)) 0) i) r ⌝ }
 {
     let route = read::route_at(p, refs::row_number(s, RouteImage::TABLE, i));
@@ -128,6 +131,7 @@ fn route_passes<'a>(
     s: &'a TableStarts,
     i: u32,
 ) -> bool
+    requires { ⌜ Whole (now p) ⌝ }
     ensures { λ r. ⌜ PassesIf (routeChecks (image (now (p .entry)) (now (batch .entry)) (now (house .entry)) (now (s .entry)) 0) i) r ⌝ }
 {
     let n = refs::row_number(s, RouteImage::TABLE, i);
@@ -157,6 +161,7 @@ pub fn check_routes<'a>(
     house: &'a [u8],
     s: &'a TableStarts,
 ) -> Outcome
+    requires { ⌜ Whole (now p) ⌝ }
     ensures { λ r. ⌜ Decides (run (routeChecks (image (now (p .entry)) (now (batch .entry)) (now (house .entry)) (now (s .entry)) 0)) 0 (rowsOf (now (s .entry)) 23)) r ⌝ }
 {
     let rows = refs::rows_of(s, RouteImage::TABLE);
@@ -182,6 +187,7 @@ fn check_binding_id<'a>(
     s: &'a TableStarts,
     i: u32,
 ) -> Outcome
+    requires { ⌜ Whole (now p) ⌝ }
     ensures { λ r. ⌜ Decides (bindingIdChecks (image (now (p .entry)) (now (batch .entry)) (now (house .entry)) (now (s .entry)) 0) i) r ⌝ }
 {
     let table = RequiredBindingImage::TABLE;
@@ -206,6 +212,7 @@ fn bindings_past<'a>(
     s: &'a TableStarts,
     rows: u32,
 ) -> u32
+    requires { ⌜ Whole (now p) ⌝ }
     ensures { λ r. ⌜ PassedOver (bindingIdChecks (image (now (p .entry)) (now (batch .entry)) (now (house .entry)) (now (s .entry)) 0)) rows r ⌝ }
 {
     let mut i: u32 = 0;
@@ -235,6 +242,7 @@ pub fn check_binding_ids<'a>(
     house: &'a [u8],
     s: &'a TableStarts,
 ) -> Outcome
+    requires { ⌜ Whole (now p) ⌝ }
     ensures { λ r. ⌜ Decides (run (bindingIdChecks (image (now (p .entry)) (now (batch .entry)) (now (house .entry)) (now (s .entry)) 0)) 0 (rowsOf (now (s .entry)) 24)) r ⌝ }
 {
     let rows = refs::rows_of(s, RequiredBindingImage::TABLE);

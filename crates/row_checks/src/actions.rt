@@ -5,7 +5,7 @@ ghost use mathlib.Core.List.{[]};
 ghost use Rattle.answers.specs.Checks.{Decides, run};
 ghost use Rattle.checks.specs.Image.{image, startOf, rowsOf, bindingsAt, isStandard, actionPart};
 ghost use Rattle.checks.specs.Refs.{endBefore, rangeEnd};
-ghost use Rattle.schema.specs.Rows.{enclaveAt, actionAt};
+ghost use Rattle.schema.specs.Rows.{Whole, enclaveAt, actionAt};
 ghost use Rattle.row_checks.specs.Reactors.{slotChecks};
 ghost use Rattle.row_checks.specs.Actions.{actionBindingChecks, actionRow, actionChecks};
 use answers::Outcome;
@@ -46,6 +46,7 @@ fn wrong_presence(i: u32) -> Outcome
 
 // An action's slot, against the bound of the enclave of record n.
 fn check_action_slot(p: &[u8], n: usize, i: u32, slot: u32) -> Outcome
+    requires { ⌜ Whole (now p) ⌝ }
     ensures { λ r. ⌜ Decides (slotChecks 3 (enclaveAt (now (p .entry)) n .«storage_bounds» .«action_slots») i slot) r ⌝ }
 {
     crate::reactors::check_slot(ActionImage::TABLE, parts::action_slots_at(p, n), i, slot)
@@ -59,6 +60,7 @@ fn check_action_binding(
     timing: ActionTiming,
     binding: MaybeBinding,
 ) -> Outcome
+    requires { ⌜ Whole (now p) ⌝ }
     ensures { λ r. ⌜ Decides (actionBindingChecks (rowsOf (now (s .entry))) (bindingsAt (now (p .entry)) (now (s .entry))) i (isStandard timing) binding) r ⌝ }
 {
     let standard = is_standard(timing);
@@ -84,6 +86,7 @@ fn check_action_binding(
 
 // Where the triggers of the row before end; 0 before the first row.
 fn triggers_end_before(p: &[u8], s: &TableStarts, i: u32) -> u64
+    requires { ⌜ Whole (now p) ⌝ }
     ensures { λ r. ⌜ r ≡ endBefore (λ j. rangeEnd (actionAt (now (p .entry)) (startOf (now (s .entry)) 3 + j) .triggers)) i ⌝ }
 {
     if i == 0 {
@@ -101,6 +104,7 @@ fn check_action_row(
     row: ActionImage,
     previous: u64,
 ) -> Outcome
+    requires { ⌜ Whole (now p) ⌝ }
     ensures { λ r. ⌜ Decides (actionRow (image (now (p .entry)) [] [] (now (s .entry)) n) i (actionPart row) previous) r ⌝ }
 {
     let scope = crate::bindings::check_scope(s, ActionImage::TABLE, i, field::SCOPE, row.scope);
@@ -130,6 +134,7 @@ fn check_action_row(
 
 // Row i of the actions, in the enclave of record n.
 fn check_action(p: &[u8], s: &TableStarts, n: usize, i: u32) -> Outcome
+    requires { ⌜ Whole (now p) ⌝ }
     ensures { λ r. ⌜ Decides (actionChecks (image (now (p .entry)) [] [] (now (s .entry)) n) i) r ⌝ }
 {
     let row = read::action_at(p, refs::row_number(s, ActionImage::TABLE, i));
@@ -138,6 +143,7 @@ fn check_action(p: &[u8], s: &TableStarts, n: usize, i: u32) -> Outcome
 
 // Every row of the actions, in the enclave of record n.
 pub fn check_actions(p: &[u8], s: &TableStarts, n: usize) -> Outcome
+    requires { ⌜ Whole (now p) ⌝ }
     ensures { λ r. ⌜ Decides (run (actionChecks (image (now (p .entry)) [] [] (now (s .entry)) n)) 0 (rowsOf (now (s .entry)) 3)) r ⌝ }
 {
     let rows = refs::rows_of(s, ActionImage::TABLE);

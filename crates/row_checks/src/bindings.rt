@@ -5,6 +5,7 @@ ghost use Rattle.answers.specs.Checks.{Decides};
 ghost use Rattle.checks.specs.Image.{rowsOf, bindingsAt};
 ghost use Rattle.checks.specs.Refs.{refTo};
 ghost use Rattle.row_checks.specs.Bindings.{kindNumber, sameKind, bindingChecks};
+ghost use Rattle.schema.specs.Rows.{Whole};
 use answers::Outcome;
 use answers::Refusal;
 use checks::Found;
@@ -43,6 +44,7 @@ pub fn check_binding(
     kind: BindingKind,
     key: BindingSlotIndex,
 ) -> Outcome
+    requires { ⌜ Whole (now p) ⌝ }
     ensures { λ r. ⌜ Decides (bindingChecks (rowsOf (now (s .entry))) (bindingsAt (now (p .entry)) (now (s .entry))) table index field kind (key .0)) r ⌝ }
 {
     let found = refs::check_binding_ref(s, table, index, field, key);

@@ -3,7 +3,7 @@ ghost use mathlib.Core.Path.{_≡_};
 ghost use mathlib.Core.List.{[]};
 ghost use Rattle.answers.specs.Checks.{Decides, run};
 ghost use Rattle.checks.specs.Image.{image, rowsOf};
-ghost use Rattle.schema.specs.Rows.{reactorAt, scopeAt};
+ghost use Rattle.schema.specs.Rows.{Whole, reactorAt, scopeAt};
 ghost use Rattle.row_checks.specs.Modes.{isMode, modeOwnerChecks, modeRow, modeChecks};
 use answers::Outcome;
 use answers::Refusal;
@@ -37,6 +37,7 @@ fn wrong_owner(i: u32, field: u8) -> Outcome
 
 // The reactor of record r and the scope of record n, against mode i.
 fn check_mode_owner(p: &[u8], i: u32, row: ModeImage, r: usize, n: usize) -> Outcome
+    requires { ⌜ Whole (now p) ⌝ }
     ensures { λ o. ⌜ Decides (modeOwnerChecks i row (reactorAt (now (p .entry)) r) (scopeAt (now (p .entry)) n)) o ⌝ }
 {
     let owner = parts::scope_reactor_at(p, n);
@@ -56,6 +57,7 @@ fn check_mode_owner(p: &[u8], i: u32, row: ModeImage, r: usize, n: usize) -> Out
 }
 
 fn check_mode_row(p: &[u8], s: &TableStarts, i: u32, row: ModeImage) -> Outcome
+    requires { ⌜ Whole (now p) ⌝ }
     ensures { λ r. ⌜ Decides (modeRow (image (now (p .entry)) [] [] (now (s .entry)) 0) i row) r ⌝ }
 {
     let reactor = refs::check_reactor_ref(s, ModeImage::TABLE, i, field::REACTOR, row.reactor);
@@ -71,6 +73,7 @@ fn check_mode_row(p: &[u8], s: &TableStarts, i: u32, row: ModeImage) -> Outcome
 
 // Row i of the modes.
 fn check_mode(p: &[u8], s: &TableStarts, i: u32) -> Outcome
+    requires { ⌜ Whole (now p) ⌝ }
     ensures { λ r. ⌜ Decides (modeChecks (image (now (p .entry)) [] [] (now (s .entry)) 0) i) r ⌝ }
 {
     let row = read::mode_at(p, refs::row_number(s, ModeImage::TABLE, i));
@@ -79,6 +82,7 @@ fn check_mode(p: &[u8], s: &TableStarts, i: u32) -> Outcome
 
 // Every row of the modes.
 pub fn check_modes(p: &[u8], s: &TableStarts) -> Outcome
+    requires { ⌜ Whole (now p) ⌝ }
     ensures { λ r. ⌜ Decides (run (modeChecks (image (now (p .entry)) [] [] (now (s .entry)) 0)) 0 (rowsOf (now (s .entry)) 6)) r ⌝ }
 {
     let rows = refs::rows_of(s, ModeImage::TABLE);

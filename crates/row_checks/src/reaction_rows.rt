@@ -7,6 +7,7 @@ ghost use Rattle.answers.specs.PassesIf.{PassesIf};
 ghost use Rattle.checks.specs.Image.{image, rowsOf, modesAt, reactionsAt};
 ghost use Rattle.row_checks.specs.Fits.{Fits};
 ghost use Rattle.row_checks.specs.Reactions.{effectChecks, reactionOwnerChecks, reactionEndsBefore, reactionRangeChecks, reactionChecks};
+ghost use Rattle.schema.specs.Rows.{Whole};
 use crate::bindings::same_kind;
 use answers::Outcome;
 use checks::refs;
@@ -37,6 +38,7 @@ fn fits(range: SliceRange, before: SliceRange, rows: u32) -> bool
 
 // Reactor, scope and binding are there, and the scope is the reactor's.
 fn owner_passes(p: &[u8], s: &TableStarts, i: u32) -> bool
+    requires { ⌜ Whole (now p) ⌝ }
     ensures { λ r. ⌜ PassesIf (reactionOwnerChecks (image (now (p .entry)) [] [] (now (s .entry)) 0) i (reactionsAt (now (p .entry)) (now (s .entry)) i)) r ⌝ }
 {
     let n = refs::row_number(s, ReactionImage::TABLE, i);
@@ -69,6 +71,7 @@ fn owner_passes(p: &[u8], s: &TableStarts, i: u32) -> bool
 
 // The target of a mode effect is there, and a mode of the reactor.
 fn effect_passes(p: &[u8], s: &TableStarts, i: u32) -> bool
+    requires { ⌜ Whole (now p) ⌝ }
     ensures { λ r. ⌜ PassesIf (effectChecks (rowsOf (now (s .entry))) (modesAt (now (p .entry)) (now (s .entry))) i (reactionsAt (now (p .entry)) (now (s .entry)) i .reactor) (reactionsAt (now (p .entry)) (now (s .entry)) i .target)) r ⌝ }
 {
     let n = refs::row_number(s, ReactionImage::TABLE, i);
@@ -91,6 +94,7 @@ fn effect_passes(p: &[u8], s: &TableStarts, i: u32) -> bool
 
 // The four ranges lie in their tables, each after the one of the row before; the first row is left to the full check.
 fn ranges_pass(p: &[u8], s: &TableStarts, i: u32) -> bool
+    requires { ⌜ Whole (now p) ⌝ }
     ensures { λ r. ⌜ PassesIf (reactionRangeChecks (rowsOf (now (s .entry))) i (reactionsAt (now (p .entry)) (now (s .entry)) i) (reactionEndsBefore (reactionsAt (now (p .entry)) (now (s .entry))) i)) r ⌝ }
 {
     if i == 0 {
@@ -126,6 +130,7 @@ fn ranges_pass(p: &[u8], s: &TableStarts, i: u32) -> bool
 
 // Row i of the reactions. Records past the pack are left to the full check, here and above, so that the readers need not test for them again.
 fn reaction_passes(p: &[u8], s: &TableStarts, i: u32) -> bool
+    requires { ⌜ Whole (now p) ⌝ }
     ensures { λ r. ⌜ PassesIf (reactionChecks (image (now (p .entry)) [] [] (now (s .entry)) 0) i) r ⌝ }
 {
     if p.len() / 64 <= refs::row_number(s, ReactionImage::TABLE, i) {
@@ -142,6 +147,7 @@ fn reaction_passes(p: &[u8], s: &TableStarts, i: u32) -> bool
 
 // Every row of the reactions.
 pub fn check_reactions(p: &[u8], s: &TableStarts) -> Outcome
+    requires { ⌜ Whole (now p) ⌝ }
     ensures { λ r. ⌜ Decides (run (reactionChecks (image (now (p .entry)) [] [] (now (s .entry)) 0)) 0 (rowsOf (now (s .entry)) 5)) r ⌝ }
 {
     let rows = refs::rows_of(s, ReactionImage::TABLE);

@@ -7,6 +7,7 @@ ghost use Rattle.answers.specs.Checks.{Decides, need};
 ghost use Rattle.checks.specs.Image.{image, rowsOf, scopesAt, modesAt, effectTarget, reactionPart, reactionsAt};
 ghost use Rattle.checks.specs.Refs.{rangeChecks};
 ghost use Rattle.row_checks.specs.Reactions.{effectChecks, reactionOwnerChecks, reactionEndsBefore, reactionRangeChecks, reactionRow, reactionChecks};
+ghost use Rattle.schema.specs.Rows.{Whole};
 use answers::Outcome;
 use answers::Refusal;
 use answers::field;
@@ -37,6 +38,7 @@ pub struct ReactionEnds {
 
 // Where the ranges of the row before end; 0 before the first row.
 fn ends_before(p: &[u8], s: &TableStarts, i: u32) -> ReactionEnds
+    requires { ⌜ Whole (now p) ⌝ }
     ensures { λ r. ⌜ r ≡ reactionEndsBefore (reactionsAt (now (p .entry)) (now (s .entry))) i ⌝ }
 {
     if i == 0 {
@@ -78,6 +80,7 @@ fn check_scope_reactor(
     scope: ScopeIndex,
     reactor: ReactorIndex,
 ) -> Outcome
+    requires { ⌜ Whole (now p) ⌝ }
     ensures { λ r. ⌜ Decides (need (eqb (scopesAt (now (p .entry)) (now (s .entry)) (scope .0) .reactor .0) (reactor .0)) (Refusal.OwnershipMismatch 5 i 10) ∷ []) r ⌝ }
 {
     let owner = parts::scope_reactor_at(p, refs::row_number(s, ScopeImage::TABLE, scope.0));
@@ -88,6 +91,7 @@ fn check_scope_reactor(
 }
 
 fn check_reaction_owner(p: &[u8], s: &TableStarts, i: u32, row: ReactionImage) -> Outcome
+    requires { ⌜ Whole (now p) ⌝ }
     ensures { λ r. ⌜ Decides (reactionOwnerChecks (image (now (p .entry)) [] [] (now (s .entry)) 0) i (reactionPart row)) r ⌝ }
 {
     let table = ReactionImage::TABLE;
@@ -115,6 +119,7 @@ fn check_effect(
     reactor: ReactorIndex,
     effect: MaybeModeEffect,
 ) -> Outcome
+    requires { ⌜ Whole (now p) ⌝ }
     ensures { λ r. ⌜ Decides (effectChecks (rowsOf (now (s .entry))) (modesAt (now (p .entry)) (now (s .entry))) i (reactor .0) (effectTarget effect)) r ⌝ }
 {
     let MaybeModeEffect::Effect(e) = effect else {
@@ -201,6 +206,7 @@ fn check_reaction_row(
     row: ReactionImage,
     previous: ReactionEnds,
 ) -> Outcome
+    requires { ⌜ Whole (now p) ⌝ }
     ensures { λ r. ⌜ Decides (reactionRow (image (now (p .entry)) [] [] (now (s .entry)) 0) i (reactionPart row) previous) r ⌝ }
 {
     let owner = check_reaction_owner(p, s, i, row);
@@ -217,6 +223,7 @@ fn check_reaction_row(
 
 // Row i of the reactions.
 pub fn check_reaction(p: &[u8], s: &TableStarts, i: u32) -> Outcome
+    requires { ⌜ Whole (now p) ⌝ }
     ensures { λ r. ⌜ Decides (reactionChecks (image (now (p .entry)) [] [] (now (s .entry)) 0) i) r ⌝ }
 {
     let row = read::reaction_at(p, refs::row_number(s, ReactionImage::TABLE, i));

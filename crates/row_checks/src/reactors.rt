@@ -7,7 +7,7 @@ ghost use lib.Dec.{eqb};
 ghost use Rattle.answers.specs.Checks.{Decides, run};
 ghost use Rattle.checks.specs.Image.{image, startOf, rowsOf, scopesAt};
 ghost use Rattle.checks.specs.Refs.{endBefore, spanEnd};
-ghost use Rattle.schema.specs.Rows.{enclaveAt, reactorAt, scopeAt};
+ghost use Rattle.schema.specs.Rows.{Whole, enclaveAt, reactorAt, scopeAt};
 ghost use Rattle.row_checks.specs.Reactors.{slotChecks, isNoMode, rootScopeChecks, initialModeChecks, bankChecks, reactorRow, reactorChecks};
 use answers::Outcome;
 use answers::Refusal;
@@ -42,6 +42,7 @@ pub fn check_slot(table: u8, bound: u32, index: u32, slot: u32) -> Outcome
 
 // A reactor's state slot, against the bound of the enclave of record n.
 fn check_state_slot(p: &[u8], n: usize, i: u32, slot: u32) -> Outcome
+    requires { ⌜ Whole (now p) ⌝ }
     ensures { λ r. ⌜ Decides (slotChecks 2 (enclaveAt (now (p .entry)) n .«storage_bounds» .«state_slots») i slot) r ⌝ }
 {
     check_slot(ReactorImage::TABLE, parts::state_slots_at(p, n), i, slot)
@@ -49,6 +50,7 @@ fn check_state_slot(p: &[u8], n: usize, i: u32, slot: u32) -> Outcome
 
 // Whether the scope of record n is reactor i's, and no mode's.
 fn own_root(p: &[u8], n: usize, i: u32) -> bool
+    requires { ⌜ Whole (now p) ⌝ }
     ensures { λ r. ⌜ r ≡ (eqb (scopeAt (now (p .entry)) n .reactor .0) i && isNoMode (scopeAt (now (p .entry)) n .mode)) ⌝ }
 {
     let reactor = parts::scope_reactor_at(p, n);
@@ -63,6 +65,7 @@ fn own_root(p: &[u8], n: usize, i: u32) -> bool
 }
 
 fn check_root_scope(p: &[u8], s: &TableStarts, i: u32, key: ScopeIndex) -> Outcome
+    requires { ⌜ Whole (now p) ⌝ }
     ensures { λ r. ⌜ Decides (rootScopeChecks (rowsOf (now (s .entry))) (scopesAt (now (p .entry)) (now (s .entry))) i (key .0)) r ⌝ }
 {
     let found = refs::check_scope_ref(s, ReactorImage::TABLE, i, field::ROOT_SCOPE, key);
@@ -117,6 +120,7 @@ fn check_bank(i: u32, bank: MaybeBank) -> Outcome
 
 // Where the modes of the row before end; 0 before the first row.
 fn modes_end_before(p: &[u8], s: &TableStarts, i: u32) -> u64
+    requires { ⌜ Whole (now p) ⌝ }
     ensures { λ r. ⌜ r ≡ endBefore (λ j. spanEnd (reactorAt (now (p .entry)) (startOf (now (s .entry)) 2 + j) .modes .0)) i ⌝ }
 {
     if i == 0 {
@@ -136,6 +140,7 @@ fn check_reactor_row(
     row: ReactorImage,
     previous: u64,
 ) -> Outcome
+    requires { ⌜ Whole (now p) ⌝ }
     ensures { λ r. ⌜ Decides (reactorRow (image (now (p .entry)) [] [] (now (s .entry)) n) i row previous) r ⌝ }
 {
     let binding = crate::bindings::check_binding(
@@ -183,6 +188,7 @@ fn check_reactor_row(
 
 // Row i of the reactors, in the enclave of record n.
 fn check_reactor(p: &[u8], s: &TableStarts, n: usize, i: u32) -> Outcome
+    requires { ⌜ Whole (now p) ⌝ }
     ensures { λ r. ⌜ Decides (reactorChecks (image (now (p .entry)) [] [] (now (s .entry)) n) i) r ⌝ }
 {
     let row = read::reactor_at(p, refs::row_number(s, ReactorImage::TABLE, i));
@@ -191,6 +197,7 @@ fn check_reactor(p: &[u8], s: &TableStarts, n: usize, i: u32) -> Outcome
 
 // Every row of the reactors, in the enclave of record n.
 pub fn check_reactors(p: &[u8], s: &TableStarts, n: usize) -> Outcome
+    requires { ⌜ Whole (now p) ⌝ }
     ensures { λ r. ⌜ Decides (run (reactorChecks (image (now (p .entry)) [] [] (now (s .entry)) n)) 0 (rowsOf (now (s .entry)) 2)) r ⌝ }
 {
     let rows = refs::rows_of(s, ReactorImage::TABLE);

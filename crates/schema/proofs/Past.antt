@@ -4,7 +4,7 @@ use mathlib.Core.Path.{_≡_, refl, sym}
 use mathlib.Core.List.{List}
 use native.Mathlib.Omega.{arith}
 use lib.ListN.{length, getD, List·getD-eq-default}
-use Rattle.schema.specs.Number.{number}
+use Rattle.schema.specs.Number.{number, Words}
 use Rattle.schema.specs.Layout.{Layout, bytes, offset, fieldAt}
 use Rattle.schema.specs.Rows.{row, empty}
 
@@ -17,6 +17,11 @@ number-past p zero o h = refl
 number-past p (suc k) o h =
     let l : length p ≤ o + k = omega arith in
     rw (number-past p k o h, byte-past p (o + k) l)
+
+pub words-past : (p : List ℕ) (o : ℕ) → length p ≤ o → Words p o 0
+words-past p o h =
+    let l : length p ≤ o + 4 = omega arith in
+    record { first = sym (number-past p 4 o h); second = sym (number-past p 4 (o + 4) l) }
 
 module _ {A : Type 0} (of : (ℕ → ℕ) → ℕ → ℕ → A) (l : Layout) (p : List ℕ) (n : ℕ) (h : length p ≤ n * 64) where
   pub row-past : empty of ≡ row of l p n

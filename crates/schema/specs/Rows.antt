@@ -1,8 +1,9 @@
 -- The rows of the tables: record n of a pack is its 64 bytes from 64 n, read by the layout of its table. Assumes nothing.
 use Prim.Native.Nat.{ℕ, _+_, _*_, _/_, _%_, _^_}
+use mathlib.Core.Path.{_≡_}
 use mathlib.Core.Bool.{Bool, cond}
 use mathlib.Core.List.{List}
-use lib.ListN.{getD}
+use lib.ListN.{getD, length}
 use lib.Dec.{eqb}
 use Rattle.identity.specs.declared.IdentityPlace.{IdentityPlace}
 use Rattle.range.specs.declared.SliceRange.{SliceRange}
@@ -45,6 +46,10 @@ use Rattle.schema.specs.declared.lists.LifecycleReactionImage.{Lifecycle
 use Rattle.schema.specs.Number.{number}
 use Rattle.schema.specs.Layout as layout
 use Rattle.schema.specs.Layout.{Layout, bytes, offset, fieldAt}
+
+-- a pack of whole records
+abbrev pub Whole : List ℕ → Type 0
+Whole p = length p % 64 ≡ 0
 
 -- byte j of record n
 abbrev pub byteOf : List ℕ → ℕ → ℕ → ℕ

@@ -94,11 +94,3 @@ pub fn word(p: &[u8], at: usize) -> u32
     }
     number(p, at, 4) as u32
 }
-
-// The two W's from `at`. Large enough to be called, not copied into each reader, which it is for where a record is not whole.
-pub fn words(p: &[u8], at: usize) -> u64
-    requires { ⌜ at + 4 < 2 ^ 64 ⌝ }
-    ensures { λ r. ⌜ Words (now (p .entry)) at r ⌝ }
-{
-    pair(word(p, at), word(p, at + 4))
-}

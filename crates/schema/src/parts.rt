@@ -1,9 +1,10 @@
 // Readers of single fields of a row, by slice and record number: what a check needs of a row that another row names.
 ghost use mathlib.Core.Path.{_≡_};
-ghost use Prim.Native.Nat.{_+_, _*_, _/_, _%_, _<_};
+ghost use Prim.Native.Nat.{_+_, _*_, _/_, _%_, _<_, _≤_};
+ghost use lib.ListN.{length};
 ghost use lib.Dec.{eqb};
 ghost use Rattle.schema.specs.Number.{number, Words};
-ghost use Rattle.schema.specs.Rows.{byteOf, enclaveAt, reactorAt, actionAt, portAt, reactionAt, modeAt, scopeAt, lifecycleAt, routeAt, bindingAt};
+ghost use Rattle.schema.specs.Rows.{Whole, byteOf, enclaveAt, reactorAt, actionAt, portAt, reactionAt, modeAt, scopeAt, lifecycleAt, routeAt, bindingAt};
 use crate::index::ActionIndex;
 use crate::index::BindingKind;
 use crate::index::BindingSlotIndex;
@@ -16,7 +17,6 @@ use crate::index::ScopeIndex;
 use crate::lists::LevelReactionImage;
 use crate::number::high;
 use crate::number::low;
-use crate::number::words;
 use crate::read::bit;
 use crate::read::byte_of;
 use crate::read::kind_of;
@@ -30,60 +30,39 @@ use range::IndexSpan;
 use range::ModeSpan;
 use range::SliceRange;
 
-// Byte j of a record that is cut off or past the pack, and the two W's from byte j there: the rare case, apart from the readers below.
-fn byte_past(p: &[u8], n: usize, j: usize) -> u8
-    requires { ⌜ j < 64 ⌝ }
-    ensures { λ r. ⌜ r ≡ byteOf (now (p .entry)) n j ⌝ }
-{
-    if p.len() / 64 < n {
-        return 0;
-    }
-    byte_of(p, n, j)
-}
-
-fn words_past(p: &[u8], n: usize, j: usize) -> u64
-    requires { ⌜ j < 64 ⌝ }
-    ensures { λ r. ⌜ Words (now (p .entry)) (n * 64 + j) r ⌝ }
-{
-    if p.len() / 64 < n {
-        return 0;
-    }
-    words(p, n * 64 + j)
-}
-
-// Byte j of record n, the W, two W's and the D from byte j, for any record number.
+// Byte j of record n, the W, two W's and the D from byte j, for any record number: zero past the pack.
 pub fn byte_at(p: &[u8], n: usize, j: usize) -> u8
-    requires { ⌜ j < 64 ⌝ }
+    requires { ⌜ Whole (now p) × (j < 64) ⌝ }
     ensures { λ r. ⌜ r ≡ byteOf (now (p .entry)) n j ⌝ }
 {
     if n < p.len() / 64 {
         return byte_of(p, n, j);
     }
-    byte_past(p, n, j)
+    0
 }
 
 pub fn word_at(p: &[u8], n: usize, j: usize) -> u32
-    requires { ⌜ j < 64 ⌝ }
+    requires { ⌜ Whole (now p) × (j ≤ 60) ⌝ }
     ensures { λ r. ⌜ r ≡ number 4 (now (p .entry)) (n * 64 + j) ⌝ }
 {
     if n < p.len() / 64 {
         return word_of(p, n, j);
     }
-    high(words_past(p, n, j))
+    0
 }
 
 pub fn words_at(p: &[u8], n: usize, j: usize) -> u64
-    requires { ⌜ j < 64 ⌝ }
+    requires { ⌜ Whole (now p) × (j ≤ 56) ⌝ }
     ensures { λ r. ⌜ Words (now (p .entry)) (n * 64 + j) r ⌝ }
 {
     if n < p.len() / 64 {
         return words_of(p, n, j);
     }
-    words_past(p, n, j)
+    0
 }
 
 pub fn long_at(p: &[u8], n: usize, j: usize) -> u64
-    requires { ⌜ j < 64 ⌝ }
+    requires { ⌜ Whole (now p) × (j ≤ 56) ⌝ }
     ensures { λ r. ⌜ r ≡ number 8 (now (p .entry)) (n * 64 + j) ⌝ }
 {
     words_at(p, n, j)
@@ -91,7 +70,7 @@ pub fn long_at(p: &[u8], n: usize, j: usize) -> u64
 
 // The start and the length from byte j of record n.
 fn range_at(p: &[u8], n: usize, j: usize) -> SliceRange
-    requires { ⌜ j < 60 ⌝ }
+    requires { ⌜ Whole (now p) × (j ≤ 56) ⌝ }
     ensures { λ r. ⌜ r ≡ record { start = number 4 (now (p .entry)) (n * 64 + j); len = number 4 (now (p .entry)) (n * 64 + (j + 4)) } ⌝ }
 {
     let pair = words_at(p, n, j);
@@ -103,6 +82,7 @@ fn range_at(p: &[u8], n: usize, j: usize) -> SliceRange
 
 // The first identity of record n, whose house bit is bit 0.
 fn place_at(p: &[u8], n: usize) -> IdentityPlace
+    requires { ⌜ Whole (now p) ⌝ }
     ensures { λ r. ⌜ r ≡ record { house = eqb (byteOf (now (p .entry)) n 1 / 1 % 2) 1; start = number 4 (now (p .entry)) (n * 64 + 4); len = number 4 (now (p .entry)) (n * 64 + (4 + 4)) } ⌝ }
 {
     let house = bit(byte_at(p, n, 1), 1);
@@ -115,24 +95,28 @@ fn place_at(p: &[u8], n: usize) -> IdentityPlace
 }
 
 pub fn enclave_id_at(p: &[u8], n: usize) -> IdentityPlace
+    requires { ⌜ Whole (now p) ⌝ }
     ensures { λ r. ⌜ r ≡ enclaveAt (now (p .entry)) n .«enclave_id» ⌝ }
 {
     place_at(p, n)
 }
 
 pub fn state_slots_at(p: &[u8], n: usize) -> u32
+    requires { ⌜ Whole (now p) ⌝ }
     ensures { λ r. ⌜ r ≡ enclaveAt (now (p .entry)) n .«storage_bounds» .«state_slots» ⌝ }
 {
     word_at(p, n, 12)
 }
 
 pub fn action_slots_at(p: &[u8], n: usize) -> u32
+    requires { ⌜ Whole (now p) ⌝ }
     ensures { λ r. ⌜ r ≡ enclaveAt (now (p .entry)) n .«storage_bounds» .«action_slots» ⌝ }
 {
     word_at(p, n, 16)
 }
 
 pub fn reactor_modes_at(p: &[u8], n: usize) -> ModeSpan
+    requires { ⌜ Whole (now p) ⌝ }
     ensures { λ r. ⌜ r ≡ reactorAt (now (p .entry)) n .modes ⌝ }
 {
     ModeSpan(IndexSpan {
@@ -142,66 +126,77 @@ pub fn reactor_modes_at(p: &[u8], n: usize) -> ModeSpan
 }
 
 pub fn action_triggers_at(p: &[u8], n: usize) -> SliceRange
+    requires { ⌜ Whole (now p) ⌝ }
     ensures { λ r. ⌜ r ≡ actionAt (now (p .entry)) n .triggers ⌝ }
 {
     range_at(p, n, 24)
 }
 
 pub fn port_triggers_at(p: &[u8], n: usize) -> SliceRange
+    requires { ⌜ Whole (now p) ⌝ }
     ensures { λ r. ⌜ r ≡ portAt (now (p .entry)) n .triggers ⌝ }
 {
     range_at(p, n, 12)
 }
 
 pub fn reaction_reactor_at(p: &[u8], n: usize) -> ReactorIndex
+    requires { ⌜ Whole (now p) ⌝ }
     ensures { λ r. ⌜ r ≡ reactionAt (now (p .entry)) n .reactor ⌝ }
 {
     ReactorIndex(word_at(p, n, 4))
 }
 
 pub fn reaction_scope_at(p: &[u8], n: usize) -> ScopeIndex
+    requires { ⌜ Whole (now p) ⌝ }
     ensures { λ r. ⌜ r ≡ reactionAt (now (p .entry)) n .scope ⌝ }
 {
     ScopeIndex(word_at(p, n, 8))
 }
 
 pub fn reaction_binding_at(p: &[u8], n: usize) -> BindingSlotIndex
+    requires { ⌜ Whole (now p) ⌝ }
     ensures { λ r. ⌜ r ≡ reactionAt (now (p .entry)) n .binding ⌝ }
 {
     BindingSlotIndex(word_at(p, n, 16))
 }
 
 pub fn reaction_level_at(p: &[u8], n: usize) -> u32
+    requires { ⌜ Whole (now p) ⌝ }
     ensures { λ r. ⌜ r ≡ reactionAt (now (p .entry)) n .«dependency_level» ⌝ }
 {
     word_at(p, n, 12)
 }
 
 pub fn reaction_use_ports_at(p: &[u8], n: usize) -> SliceRange
+    requires { ⌜ Whole (now p) ⌝ }
     ensures { λ r. ⌜ r ≡ reactionAt (now (p .entry)) n .«use_ports» ⌝ }
 {
     range_at(p, n, 20)
 }
 
 pub fn reaction_effect_ports_at(p: &[u8], n: usize) -> SliceRange
+    requires { ⌜ Whole (now p) ⌝ }
     ensures { λ r. ⌜ r ≡ reactionAt (now (p .entry)) n .«effect_ports» ⌝ }
 {
     range_at(p, n, 28)
 }
 
 pub fn reaction_actions_at(p: &[u8], n: usize) -> SliceRange
+    requires { ⌜ Whole (now p) ⌝ }
     ensures { λ r. ⌜ r ≡ reactionAt (now (p .entry)) n .actions ⌝ }
 {
     range_at(p, n, 36)
 }
 
 pub fn reaction_enabled_modes_at(p: &[u8], n: usize) -> SliceRange
+    requires { ⌜ Whole (now p) ⌝ }
     ensures { λ r. ⌜ r ≡ reactionAt (now (p .entry)) n .«enabled_modes» ⌝ }
 {
     range_at(p, n, 44)
 }
 
 pub fn reaction_mode_effect_at(p: &[u8], n: usize) -> MaybeModeEffect
+    requires { ⌜ Whole (now p) ⌝ }
     ensures { λ r. ⌜ r ≡ reactionAt (now (p .entry)) n .«mode_effect» ⌝ }
 {
     let present = bit(byte_at(p, n, 1), 2);
@@ -209,42 +204,49 @@ pub fn reaction_mode_effect_at(p: &[u8], n: usize) -> MaybeModeEffect
 }
 
 pub fn mode_reactor_at(p: &[u8], n: usize) -> ReactorIndex
+    requires { ⌜ Whole (now p) ⌝ }
     ensures { λ r. ⌜ r ≡ modeAt (now (p .entry)) n .reactor ⌝ }
 {
     ReactorIndex(word_at(p, n, 4))
 }
 
 pub fn scope_parent_at(p: &[u8], n: usize) -> MaybeScope
+    requires { ⌜ Whole (now p) ⌝ }
     ensures { λ r. ⌜ r ≡ scopeAt (now (p .entry)) n .parent ⌝ }
 {
     maybe_scope(bit(byte_at(p, n, 1), 1), word_at(p, n, 4))
 }
 
 pub fn scope_reactor_at(p: &[u8], n: usize) -> ReactorIndex
+    requires { ⌜ Whole (now p) ⌝ }
     ensures { λ r. ⌜ r ≡ scopeAt (now (p .entry)) n .reactor ⌝ }
 {
     ReactorIndex(word_at(p, n, 8))
 }
 
 pub fn scope_mode_at(p: &[u8], n: usize) -> MaybeMode
+    requires { ⌜ Whole (now p) ⌝ }
     ensures { λ r. ⌜ r ≡ scopeAt (now (p .entry)) n .mode ⌝ }
 {
     maybe_mode(bit(byte_at(p, n, 1), 2), word_at(p, n, 12))
 }
 
 pub fn scope_reset_reactions_at(p: &[u8], n: usize) -> SliceRange
+    requires { ⌜ Whole (now p) ⌝ }
     ensures { λ r. ⌜ r ≡ scopeAt (now (p .entry)) n .«reset_reactions» ⌝ }
 {
     range_at(p, n, 40)
 }
 
 pub fn scope_startup_reactions_at(p: &[u8], n: usize) -> SliceRange
+    requires { ⌜ Whole (now p) ⌝ }
     ensures { λ r. ⌜ r ≡ scopeAt (now (p .entry)) n .«startup_reactions» ⌝ }
 {
     range_at(p, n, 48)
 }
 
 pub fn scope_shutdown_reactions_at(p: &[u8], n: usize) -> SliceRange
+    requires { ⌜ Whole (now p) ⌝ }
     ensures { λ r. ⌜ r ≡ scopeAt (now (p .entry)) n .«shutdown_reactions» ⌝ }
 {
     range_at(p, n, 56)
@@ -252,36 +254,42 @@ pub fn scope_shutdown_reactions_at(p: &[u8], n: usize) -> SliceRange
 
 // The action of a lifecycle reaction, and its level and reaction.
 pub fn lifecycle_action_at(p: &[u8], n: usize) -> ActionIndex
+    requires { ⌜ Whole (now p) ⌝ }
     ensures { λ r. ⌜ r ≡ lifecycleAt (now (p .entry)) n .action ⌝ }
 {
     ActionIndex(word_at(p, n, 12))
 }
 
 pub fn lifecycle_reaction_at(p: &[u8], n: usize) -> LevelReactionImage
+    requires { ⌜ Whole (now p) ⌝ }
     ensures { λ r. ⌜ r ≡ lifecycleAt (now (p .entry)) n .reaction ⌝ }
 {
     crate::read_lists::level_at(p, n)
 }
 
 pub fn binding_kind_at(p: &[u8], n: usize) -> BindingKind
+    requires { ⌜ Whole (now p) ⌝ }
     ensures { λ r. ⌜ r ≡ bindingAt (now (p .entry)) n .kind ⌝ }
 {
     kind_of(byte_at(p, n, 2))
 }
 
 pub fn binding_id_at(p: &[u8], n: usize) -> IdentityPlace
+    requires { ⌜ Whole (now p) ⌝ }
     ensures { λ r. ⌜ r ≡ bindingAt (now (p .entry)) n .id ⌝ }
 {
     place_at(p, n)
 }
 
 pub fn route_boundary_at(p: &[u8], n: usize) -> IdentityPlace
+    requires { ⌜ Whole (now p) ⌝ }
     ensures { λ r. ⌜ r ≡ routeAt (now (p .entry)) n .boundary ⌝ }
 {
     place_at(p, n)
 }
 
 pub fn route_port_at(p: &[u8], n: usize) -> PortIndex
+    requires { ⌜ Whole (now p) ⌝ }
     ensures { λ r. ⌜ r ≡ routeAt (now (p .entry)) n .«local_port» ⌝ }
 {
     PortIndex(word_at(p, n, 12))

@@ -1,10 +1,10 @@
-// Readers of tables 0 to 7, 23 and 24, by slice and record number. A record past the pack is the empty row.
+// Readers of tables 0 to 7, 23 and 24, by slice and record number, of a pack of whole records. A record past the pack is the empty row.
 ghost use mathlib.Core.Path.{_≡_};
 ghost use Prim.Native.Nat.{_+_, _*_, _/_, _≤_, _<_, _%_};
 ghost use lib.Dec.{eqb};
 ghost use lib.ListN.{length};
 ghost use Rattle.schema.specs.Number.{number, Words};
-ghost use Rattle.schema.specs.Rows.{byteOf, maybeMode, maybeScope, maybeBinding, maybeBank, maybePeriod, maybeEffect, transitionOf, timingOf, kindOf, directionOf, domainOf, federateAt, enclaveAt, reactorAt, actionAt, portAt, reactionAt, modeAt, scopeAt, routeAt, bindingAt};
+ghost use Rattle.schema.specs.Rows.{Whole, byteOf, maybeMode, maybeScope, maybeBinding, maybeBank, maybePeriod, maybeEffect, transitionOf, timingOf, kindOf, directionOf, domainOf, federateAt, enclaveAt, reactorAt, actionAt, portAt, reactionAt, modeAt, scopeAt, routeAt, bindingAt};
 use crate::index::ActionTiming;
 use crate::index::BankInfoImage;
 use crate::index::BindingKind;
@@ -26,7 +26,6 @@ use crate::index::Transition;
 use crate::number::high;
 use crate::number::low;
 use crate::number::word_inside;
-use crate::number::words;
 use crate::number::words_inside;
 use crate::rows::ActionImage;
 use crate::rows::EnclaveImage;
@@ -45,46 +44,31 @@ use range::IndexSpan;
 use range::ModeSpan;
 use range::SliceRange;
 
-// Byte j of record n, and the W and the D from byte j.
+// Byte j of a record inside the pack, and the W, two W's and the D from byte j.
 pub fn byte_of(p: &[u8], n: usize, j: usize) -> u8
-    requires { ⌜ n ≤ length (now p) / 64 ⌝ }
+    requires { ⌜ (n < length (now p) / 64) × (j < 64) ⌝ }
     ensures { λ r. ⌜ r ≡ byteOf (now (p .entry)) n j ⌝ }
 {
-    if n < p.len() / 64 {
-        if j < 64 {
-            return p[n * 64 + j];
-        }
-    }
-    crate::number::byte(p, n * 64, j)
+    p[n * 64 + j]
 }
 
 pub fn word_of(p: &[u8], n: usize, j: usize) -> u32
-    requires { ⌜ (n ≤ length (now p) / 64) × (j < 64) ⌝ }
+    requires { ⌜ (n < length (now p) / 64) × (j ≤ 60) ⌝ }
     ensures { λ r. ⌜ r ≡ number 4 (now (p .entry)) (n * 64 + j) ⌝ }
 {
-    if n < p.len() / 64 {
-        if j <= 60 {
-            return word_inside(p, n * 64 + j);
-        }
-    }
-    high(words(p, n * 64 + j))
+    word_inside(p, n * 64 + j)
 }
 
 // Two W's in one number: read and passed on at once.
 pub fn words_of(p: &[u8], n: usize, j: usize) -> u64
-    requires { ⌜ (n ≤ length (now p) / 64) × (j < 64) ⌝ }
+    requires { ⌜ (n < length (now p) / 64) × (j ≤ 56) ⌝ }
     ensures { λ r. ⌜ Words (now (p .entry)) (n * 64 + j) r ⌝ }
 {
-    if n < p.len() / 64 {
-        if j <= 56 {
-            return words_inside(p, n * 64 + j);
-        }
-    }
-    words(p, n * 64 + j)
+    words_inside(p, n * 64 + j)
 }
 
 pub fn long_of(p: &[u8], n: usize, j: usize) -> u64
-    requires { ⌜ (n ≤ length (now p) / 64) × (j < 64) ⌝ }
+    requires { ⌜ (n < length (now p) / 64) × (j ≤ 56) ⌝ }
     ensures { λ r. ⌜ r ≡ number 8 (now (p .entry)) (n * 64 + j) ⌝ }
 {
     words_of(p, n, j)
@@ -99,7 +83,7 @@ pub fn bit(b: u8, weight: u8) -> bool
 }
 
 pub fn range_of(p: &[u8], n: usize, j: usize) -> SliceRange
-    requires { ⌜ (n ≤ length (now p) / 64) × (j < 60) ⌝ }
+    requires { ⌜ (n < length (now p) / 64) × (j ≤ 56) ⌝ }
     ensures { λ r. ⌜ r ≡ record { start = number 4 (now (p .entry)) (n * 64 + j); len = number 4 (now (p .entry)) (n * 64 + (j + 4)) } ⌝ }
 {
     let pair = words_of(p, n, j);
@@ -110,7 +94,7 @@ pub fn range_of(p: &[u8], n: usize, j: usize) -> SliceRange
 }
 
 fn place_of(house: bool, p: &[u8], n: usize, j: usize) -> IdentityPlace
-    requires { ⌜ (n ≤ length (now p) / 64) × (j < 60) ⌝ }
+    requires { ⌜ (n < length (now p) / 64) × (j ≤ 56) ⌝ }
     ensures { λ r. ⌜ r ≡ record { house = house; start = number 4 (now (p .entry)) (n * 64 + j); len = number 4 (now (p .entry)) (n * 64 + (j + 4)) } ⌝ }
 {
     let pair = words_of(p, n, j);
@@ -237,9 +221,10 @@ fn domain_of(physical: bool) -> TimingDomain
 }
 
 pub fn federate_at(p: &[u8], n: usize) -> FederateImage
+    requires { ⌜ Whole (now p) ⌝ }
     ensures { λ r. ⌜ r ≡ federateAt (now (p .entry)) n ⌝ }
 {
-    if p.len() / 64 < n {
+    if p.len() / 64 <= n {
         return FederateImage::empty();
     }
     let bits = byte_of(p, n, 1);
@@ -255,9 +240,10 @@ pub fn federate_at(p: &[u8], n: usize) -> FederateImage
 }
 
 pub fn enclave_at(p: &[u8], n: usize) -> EnclaveImage
+    requires { ⌜ Whole (now p) ⌝ }
     ensures { λ r. ⌜ r ≡ enclaveAt (now (p .entry)) n ⌝ }
 {
-    if p.len() / 64 < n {
+    if p.len() / 64 <= n {
         return EnclaveImage::empty();
     }
     let bits = byte_of(p, n, 1);
@@ -275,9 +261,10 @@ pub fn enclave_at(p: &[u8], n: usize) -> EnclaveImage
 }
 
 pub fn reactor_at(p: &[u8], n: usize) -> ReactorImage
+    requires { ⌜ Whole (now p) ⌝ }
     ensures { λ r. ⌜ r ≡ reactorAt (now (p .entry)) n ⌝ }
 {
-    if p.len() / 64 < n {
+    if p.len() / 64 <= n {
         return ReactorImage::empty();
     }
     let bits = byte_of(p, n, 1);
@@ -295,9 +282,10 @@ pub fn reactor_at(p: &[u8], n: usize) -> ReactorImage
 }
 
 pub fn action_at(p: &[u8], n: usize) -> ActionImage
+    requires { ⌜ Whole (now p) ⌝ }
     ensures { λ r. ⌜ r ≡ actionAt (now (p .entry)) n ⌝ }
 {
-    if p.len() / 64 < n {
+    if p.len() / 64 <= n {
         return ActionImage::empty();
     }
     let bits = byte_of(p, n, 1);
@@ -311,9 +299,10 @@ pub fn action_at(p: &[u8], n: usize) -> ActionImage
 }
 
 pub fn port_at(p: &[u8], n: usize) -> PortImage
+    requires { ⌜ Whole (now p) ⌝ }
     ensures { λ r. ⌜ r ≡ portAt (now (p .entry)) n ⌝ }
 {
-    if p.len() / 64 < n {
+    if p.len() / 64 <= n {
         return PortImage::empty();
     }
     PortImage {
@@ -324,9 +313,10 @@ pub fn port_at(p: &[u8], n: usize) -> PortImage
 }
 
 pub fn reaction_at(p: &[u8], n: usize) -> ReactionImage
+    requires { ⌜ Whole (now p) ⌝ }
     ensures { λ r. ⌜ r ≡ reactionAt (now (p .entry)) n ⌝ }
 {
-    if p.len() / 64 < n {
+    if p.len() / 64 <= n {
         return ReactionImage::empty();
     }
     let bits = byte_of(p, n, 1);
@@ -345,9 +335,10 @@ pub fn reaction_at(p: &[u8], n: usize) -> ReactionImage
 }
 
 pub fn mode_at(p: &[u8], n: usize) -> ModeImage
+    requires { ⌜ Whole (now p) ⌝ }
     ensures { λ r. ⌜ r ≡ modeAt (now (p .entry)) n ⌝ }
 {
-    if p.len() / 64 < n {
+    if p.len() / 64 <= n {
         return ModeImage::empty();
     }
     ModeImage {
@@ -357,9 +348,10 @@ pub fn mode_at(p: &[u8], n: usize) -> ModeImage
 }
 
 pub fn scope_at(p: &[u8], n: usize) -> ScopeImage
+    requires { ⌜ Whole (now p) ⌝ }
     ensures { λ r. ⌜ r ≡ scopeAt (now (p .entry)) n ⌝ }
 {
-    if p.len() / 64 < n {
+    if p.len() / 64 <= n {
         return ScopeImage::empty();
     }
     let bits = byte_of(p, n, 1);
@@ -377,9 +369,10 @@ pub fn scope_at(p: &[u8], n: usize) -> ScopeImage
 }
 
 pub fn route_at(p: &[u8], n: usize) -> RouteImage
+    requires { ⌜ Whole (now p) ⌝ }
     ensures { λ r. ⌜ r ≡ routeAt (now (p .entry)) n ⌝ }
 {
-    if p.len() / 64 < n {
+    if p.len() / 64 <= n {
         return RouteImage::empty();
     }
     let kinds = byte_of(p, n, 2);
@@ -393,9 +386,10 @@ pub fn route_at(p: &[u8], n: usize) -> RouteImage
 }
 
 pub fn binding_at(p: &[u8], n: usize) -> RequiredBindingImage
+    requires { ⌜ Whole (now p) ⌝ }
     ensures { λ r. ⌜ r ≡ bindingAt (now (p .entry)) n ⌝ }
 {
-    if p.len() / 64 < n {
+    if p.len() / 64 <= n {
         return RequiredBindingImage::empty();
     }
     RequiredBindingImage {

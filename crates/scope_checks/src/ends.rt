@@ -7,6 +7,7 @@ ghost use Prim.Native.Nat.{_<_};
 ghost use Rattle.checks.specs.Refs.{rangeChecks};
 ghost use Rattle.scope_checks.specs.Ends.{endsOf, noEnds, memberRangeChecks, reactionRangeChecks, scopeRangeChecks, Moves};
 ghost use Rattle.scope_checks.specs.Scopes.{scopeRowChecks};
+ghost use Rattle.schema.specs.Rows.{Whole};
 use answers::Outcome;
 use answers::field;
 use checks::refs;
@@ -156,6 +157,7 @@ pub fn moved_ends(s: &TableStarts, i: u32, row: ScopeImage, ends: ScopeEnds) -> 
 
 // The whole row by value: its references, then its ranges.
 pub fn moved_row(p: &[u8], s: &TableStarts, i: u32, row: ScopeImage, ends: ScopeEnds) -> EndsAnswer
+    requires { ⌜ Whole (now p) ⌝ }
     ensures { λ r. ⌜ Moves (scopeRowChecks (image (now (p .entry)) [] [] (now (s .entry)) 0) i row ends) row ends (r .ends) (r .answer) ⌝ }
 {
     let owner = crate::owners::check_scope_owner(p, s, i, row);
@@ -176,6 +178,7 @@ pub fn check_scope_row(
     row: ScopeImage,
     ends: &mut ScopeEnds,
 ) -> Outcome
+    requires { ⌜ Whole (now p) ⌝ }
     ensures { λ r. ⌜ Moves (scopeRowChecks (image (now (p .entry)) [] [] (now (s .entry)) 0) i row (now (ends .entry))) row (now (ends .entry)) (now (ends .exit)) r ⌝ }
 {
     let a = moved_row(p, s, i, row, *ends);
@@ -185,6 +188,7 @@ pub fn check_scope_row(
 
 // The same with plain parameters: it lends the ends to `check_scope_row`.
 fn row_by(p: &[u8], s: &TableStarts, i: u32, row: ScopeImage, ends: ScopeEnds) -> EndsAnswer
+    requires { ⌜ Whole (now p) ⌝ }
     ensures { λ r. ⌜ Moves (scopeRowChecks (image (now (p .entry)) [] [] (now (s .entry)) 0) i row ends) row ends (r .ends) (r .answer) ⌝ }
 {
     let mut e = ends;
@@ -194,6 +198,7 @@ fn row_by(p: &[u8], s: &TableStarts, i: u32, row: ScopeImage, ends: ScopeEnds) -
 
 // Row i of the pack.
 pub fn scope_row_by(p: &[u8], s: &TableStarts, i: u32, ends: ScopeEnds) -> EndsAnswer
+    requires { ⌜ Whole (now p) ⌝ }
     ensures { λ r. ⌜ Moves (scopeRowChecks (image (now (p .entry)) [] [] (now (s .entry)) 0) i (scopesAt (now (p .entry)) (now (s .entry)) i) ends) (scopesAt (now (p .entry)) (now (s .entry)) i) ends (r .ends) (r .answer) ⌝ }
 {
     let row = read::scope_at(p, refs::row_number(s, ScopeImage::TABLE, i));

@@ -6,6 +6,7 @@ ghost use lib.Dec.{eqb};
 ghost use Rattle.answers.specs.Checks.{Decides};
 ghost use Rattle.checks.specs.Image.{image, rowsOf, modesAt};
 ghost use Rattle.scope_checks.specs.Scopes.{parentChecks, scopeModeChecks, scopeOwnerChecks};
+ghost use Rattle.schema.specs.Rows.{Whole};
 use answers::Outcome;
 use answers::Refusal;
 use answers::field;
@@ -53,6 +54,7 @@ pub fn check_scope_mode(
     reactor: ReactorIndex,
     mode: MaybeMode,
 ) -> Outcome
+    requires { ⌜ Whole (now p) ⌝ }
     ensures { λ r. ⌜ Decides (scopeModeChecks (rowsOf (now (s .entry))) (modesAt (now (p .entry)) (now (s .entry))) i (reactor .0) mode) r ⌝ }
 {
     let MaybeMode::Mode(key) = mode else {
@@ -74,6 +76,7 @@ pub fn check_scope_mode(
 
 // The references of row i, in order: reactor, parent, mode.
 pub fn check_scope_owner(p: &[u8], s: &TableStarts, i: u32, row: ScopeImage) -> Outcome
+    requires { ⌜ Whole (now p) ⌝ }
     ensures { λ r. ⌜ Decides (scopeOwnerChecks (image (now (p .entry)) [] [] (now (s .entry)) 0) i row) r ⌝ }
 {
     let reactor = row.reactor;

@@ -3,6 +3,7 @@ ghost use mathlib.Core.List.{[]};
 ghost use Rattle.answers.specs.Checks.{run, Decides};
 ghost use Rattle.checks.specs.Image.{image, rowsOf};
 ghost use Rattle.scope_checks.specs.Scopes.{scopeChecks};
+ghost use Rattle.schema.specs.Rows.{Whole};
 use answers::Outcome;
 use checks::refs;
 use schema::TableStarts;
@@ -10,6 +11,7 @@ use schema::rows::ScopeImage;
 
 // Every row of scopes, with the running ends.
 pub fn check_scopes(p: &[u8], s: &TableStarts) -> Outcome
+    requires { ⌜ Whole (now p) ⌝ }
     ensures { λ r. ⌜ Decides (run (scopeChecks (image (now (p .entry)) [] [] (now (s .entry)) 0)) 0 (rowsOf (now (s .entry)) 7)) r ⌝ }
 {
     let n = refs::rows_of(s, ScopeImage::TABLE);

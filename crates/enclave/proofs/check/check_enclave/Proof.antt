@@ -1,5 +1,6 @@
 -- `enclave::check::check_enclave` meets its contract. Assumes nothing.
-use mathlib.Core.Path.{_∙_, ap}
+use mathlib.Core.Path.{_∙_, ap, sym}
+use Rattle.packing.proofs.Packed.{fits}
 use Rattle.enclave.specs.Answer.{answerNumbers, enclaveAnswer}
 use Rattle.enclave.proofs.Whole.{result-numbers}
 use borrow.Author.Needs.{needs}
@@ -27,5 +28,5 @@ check-enclave-spec =
     (λ c. search needs)
     (λ c κs. search needs)
     returns
-    (λ c κs. search needs)
+    (λ c κs. fits _ _ _ _ (sym (c .before .before .before .check-enclave-packing .ensures .0) ∙ c .before .enum-told .given .1) .whole)
     returns-2)

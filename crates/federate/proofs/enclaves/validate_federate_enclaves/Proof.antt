@@ -26,7 +26,7 @@ validate-federate-enclaves-spec =
     (λ c. search needs)
     (λ c. omega arith)
     (λ c. before-other (c .before .before .before .loop .inv) (rw (← c .before .before .before .before .records-of .ensures) (c .before .before .loop-test .taken)) (sym (not-true _ (c .if1 .taken)) ∙ c .before .is-of .ensures))
-    (λ c κs. (rw (← c .before .before .before .before .records-of .ensures) (c .before .before .loop-test .taken), (sym (c .before .is-of .ensures) ∙ not-false _ (c .if1 .left), (c .before .before .before .loop .inv .places .is, c .before .before .before .loop .inv .befores))))
+    (λ c κs. (rw (← c .before .before .before .before .records-of .ensures) (c .before .before .loop-test .taken), (sym (c .before .is-of .ensures) ∙ not-false _ (c .if1 .left), (c .before .before .before .loop .inv .places .is, c .before .before .before .loop .inv .befores)), search needs))
     (λ c. search needs)
     (λ c. search needs)
     (λ c. before-refused (c .before .before .before .before .before .before .loop .inv) (rw (← c .before .before .before .before .before .before .before .records-of .ensures) (c .before .before .before .before .before .loop-test .taken)) (sym (c .before .before .before .before .is-of .ensures) ∙ not-false _ (c .before .before .before .if1 .left)) (c .before .before .check-record .ensures) (c .enum-told .given .1))

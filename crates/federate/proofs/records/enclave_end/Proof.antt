@@ -21,7 +21,7 @@ enclave-end-spec =
     μ-loop
     (λ c κs. search needs)
     (λ c. search needs)
-    (λ c. looked-start _ _ (c .before .before .pre))
+    (λ c. looked-start _ _ (c .before .before .pre .0))
     (λ c κs. search needs)
     (λ c. looked-found (c .before .before .before .loop .inv) (rw (← c .before .before .before .before .records-of .ensures) (c .before .before .loop-test .taken)) (sym (c .if1 .taken) ∙ c .before .is-of .ensures))
     (λ c. search needs)

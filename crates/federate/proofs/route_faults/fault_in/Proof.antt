@@ -9,7 +9,7 @@ pub fault-in-spec : {M : Type 1} → statement M
 fault-in-spec =
     tie.close
     (tie.spec
-    (λ c κs. c .before .before .before .before .before .before .pre .0)
+    (λ c κs. (c .before .before .before .before .before .before .pre .0, c .before .before .before .before .before .before .pre .2))
     (λ c κs. search needs)
     (λ c κs. search needs)
     (λ c. search needs)

@@ -12,7 +12,7 @@ fault-within-spec =
     (tie.spec
     (λ c. search needs)
     (λ c. sym (length-take-le (c .before .before .before .before .before .before .args .routes) (c .before .before .before .before .before .before .args .rows .now) (c .before .before .before .before .before .before .pre .1)))
-    (λ c κs. let l = length-take-le (c .before .before .before .before .before .before .before .args .routes) (c .before .before .before .before .before .before .before .args .rows .now) (c .before .before .before .before .before .before .before .pre .1) in (l ∙ c .before .before .before .before .before .before .before .pre .0, omega arith))
+    (λ c κs. let l = length-take-le (c .before .before .before .before .before .before .before .args .routes) (c .before .before .before .before .before .before .before .args .rows .now) (c .before .before .before .before .before .before .before .pre .1) in (l ∙ c .before .before .before .before .before .before .before .pre .0, omega arith, c .before .before .before .before .before .before .before .pre .3))
     (λ c. search needs)
     (λ c. search needs)
     (λ c. search needs))

@@ -18,5 +18,5 @@ first-fault-spec =
     (λ c. search needs)
     (λ c. search needs)
     (λ c. search needs)
-    (λ c κs. let p = c .before .before .before .before .before .before .args .pack .now in let a = below-few (isOf p 23) (recordsOf p) in let b = records-few p in (c .before .before .before .before .before .before .pre, omega (arith, c .before .before .before .before .before .before .pre), omega arith))
+    (λ c κs. let p = c .before .before .before .before .before .before .args .pack .now in let a = below-few (isOf p 23) (recordsOf p) in let b = records-few p in (c .before .before .before .before .before .before .pre .0, omega (arith, c .before .before .before .before .before .before .pre .0), omega arith, c .before .before .before .before .before .before .pre .1))
     (λ c. search needs))

@@ -21,7 +21,7 @@ list-spec =
     Inv-loop
     μ-loop
     (λ c κs. search needs)
-    (λ c. (listing-start _ _ _ (c .before .before .before .pre), refl))
+    (λ c. (listing-start _ _ _ (c .before .before .before .pre .0), refl))
     (λ c. search needs)
     (λ c κs. search needs)
     (λ c. omega arith)

@@ -13,7 +13,7 @@ validate-federate-route-pairs-spec =
     (λ c. no-routes _ _ (c .before .count-of .ensures) (omega arith))
     (λ c κs. search needs)
     (λ c. c .check-each .ensures)
-    (λ c κs. c .before .before .count-of .ensures)
+    (λ c κs. (c .before .before .count-of .ensures, search needs))
     (λ c κs. search needs)
     (λ c κs. search needs)
     (λ c. fault-decides (c .before .before .before .first-fault .ensures) _ (rw (← c .before .before .records-of .ensures) (c .before .if3 .taken)) (c .check-record .ensures))

@@ -104,7 +104,7 @@ sort-join-requires : (t : ℕ) → sort-lts.Need-join-requires (
   join-reads.Asked,
   join-reads.Learnt,
 ) (sort-at t) sort.Post
-sort-join-requires t c κs = joinable (c .before .before .before .before .before .before .before .before .before .before .before .before .before .before .before .before .before .before .before .before .before .before .args .rows .now) (c .before .before .before .before .before .before .before .before .before .before .before .before .before .sort .last .1 .1 .1 .0) (length (c .before .before .before .before .before .before .before .before .before .before .before .before .before .before .before .before .before .before .before .before .before .before .args .rows .now) / 2) (omega arith) (c .before .before .before .before .before .before .before .before .before .before .before .before .before .sort .kept .1 .1 .1 .0) (c .before .before .before .before .before .before .sort2 .last .1 .1 .1 .0) (c .before .before .before .before .before .before .sort2 .kept .1 .1 .1 .0) (length (c .before .before .before .before .before .before .sort2 .last .1 .1 .1 .1 .0)) (c .before .before .before .before .before .before .before .before .before .before .before .before .before .sort .ensures .ordered) (c .before .before .before .before .before .before .sort2 .ensures .ordered) (omega (arith, c .before .before .before .before .before .before .sort2 .kept .1 .1 .1 .1 .0 ∙ c .before .before .before .before .before .before .before .before .before .before .before .before .before .sort .kept .1 .1 .1 .1 .0)) (omega arith) (omega arith)
+sort-join-requires t c κs = let j = joinable (c .before .before .before .before .before .before .before .before .before .before .before .before .before .before .before .before .before .before .before .before .before .before .args .rows .now) (c .before .before .before .before .before .before .before .before .before .before .before .before .before .sort .last .1 .1 .1 .0) (length (c .before .before .before .before .before .before .before .before .before .before .before .before .before .before .before .before .before .before .before .before .before .before .args .rows .now) / 2) (omega arith) (c .before .before .before .before .before .before .before .before .before .before .before .before .before .sort .kept .1 .1 .1 .0) (c .before .before .before .before .before .before .sort2 .last .1 .1 .1 .0) (c .before .before .before .before .before .before .sort2 .kept .1 .1 .1 .0) (length (c .before .before .before .before .before .before .sort2 .last .1 .1 .1 .1 .0)) (c .before .before .before .before .before .before .before .before .before .before .before .before .before .sort .ensures .ordered) (c .before .before .before .before .before .before .sort2 .ensures .ordered) (omega (arith, c .before .before .before .before .before .before .sort2 .kept .1 .1 .1 .1 .0 ∙ c .before .before .before .before .before .before .before .before .before .before .before .before .before .sort .kept .1 .1 .1 .1 .0)) (omega arith) (omega arith) in (j .0, j .1, j .2, j .3, j .4, c .before .before .before .before .before .before .before .before .before .before .before .before .before .before .before .before .before .before .before .before .before .before .pre .1 .1)
 
 sort-same-length : (t : ℕ) → sort-lts.Need-same-length (
   sort-below t,

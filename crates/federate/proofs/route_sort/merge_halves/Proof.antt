@@ -17,6 +17,6 @@ merge-halves-spec =
     (λ c. search needs)
     (λ c. search needs)
     (λ c. search needs)
-    (λ c κs. (rw (rest-is (c .before .before .before .before .before .before .before .before .args .rows .now) (c .before .before .before .before .before .before .before .before .args .mid)) (simp (length-take, length-drop) (omega arith)), c .before .before .before .before .before .before .before .before .pre .2, rw (rest-is (c .before .before .before .before .before .before .before .before .args .rows .now) (c .before .before .before .before .before .before .before .before .args .mid)) (c .before .before .before .before .before .before .before .before .pre .3)))
+    (λ c κs. (rw (rest-is (c .before .before .before .before .before .before .before .before .args .rows .now) (c .before .before .before .before .before .before .before .before .args .mid)) (simp (length-take, length-drop) (omega arith)), c .before .before .before .before .before .before .before .before .pre .2, rw (rest-is (c .before .before .before .before .before .before .before .before .args .rows .now) (c .before .before .before .before .before .before .before .before .args .mid)) (c .before .before .before .before .before .before .before .before .pre .3), c .before .before .before .before .before .before .before .before .pre .4))
     (λ c. search needs)
     (λ c. merged-halves (c .before .before .before .before .before .before .before .before .before .before .before .args .rows .now) (c .before .before .before .before .before .before .before .before .before .before .before .args .mid) (c .before .before .merge .ensures)))

@@ -18,13 +18,9 @@ returns c = simp (c .word-inside .ensures)
 returns-2 : tie.Need-returns-2
 unfolding indexAt
 returns-2 c =
-    let a = c .before .before .before .args in
+    let a = c .before .before .args in
     let h : length (now (a .p)) ≤ a .n * 64 = omega arith in
-    c .before .before .before .pre ∙ row-past indexOf layout.indexes (now (a .p)) (a .n) h
-
-returns-3 : tie.Need-returns-3
-unfolding indexAt
-returns-3 c = simp (c .high .ensures, c .before .words .ensures .first)
+    c .before .before .pre .1 ∙ row-past indexOf layout.indexes (now (a .p)) (a .n) h
 
 pub index-or-spec : {M : Type 1} → statement M
 index-or-spec =
@@ -34,9 +30,4 @@ index-or-spec =
     (λ c. search needs)
     (λ c κs. search needs)
     returns
-    returns-2
-    (λ c. search needs)
-    (λ c. search needs)
-    (λ c κs. search needs)
-    (λ c κs. search needs)
-    returns-3)
+    returns-2)

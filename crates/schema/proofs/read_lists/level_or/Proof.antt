@@ -21,15 +21,9 @@ returns c =
 returns-2 : tie.Need-returns-2
 unfolding levelAt
 returns-2 c =
-    let a = c .before .before .before .args in
+    let a = c .before .before .args in
     let h : length (now (a .p)) ≤ a .n * 64 = omega arith in
-    c .before .before .before .pre ∙ row-past levelOf layout.levels (now (a .p)) (a .n) h
-
-returns-3 : tie.Need-returns-3
-unfolding levelAt
-returns-3 c =
-    let w = c .before .words .ensures in
-    simp (c .level-of2 .ensures, w .first, second-at _ 4 w)
+    c .before .before .pre .1 ∙ row-past levelOf layout.levels (now (a .p)) (a .n) h
 
 pub level-or-spec : {M : Type 1} → statement M
 level-or-spec =
@@ -40,9 +34,4 @@ level-or-spec =
     (λ c κs. search needs)
     (λ c κs. search needs)
     returns
-    returns-2
-    (λ c. search needs)
-    (λ c. search needs)
-    (λ c κs. search needs)
-    (λ c κs. search needs)
-    returns-3)
+    returns-2)

@@ -21,15 +21,9 @@ returns c =
 returns-2 : tie.Need-returns-2
 unfolding lifecycleAt
 returns-2 c =
-    let a = c .before .before .before .args in
+    let a = c .before .before .args in
     let h : length (now (a .p)) ≤ a .n * 64 = omega arith in
-    c .before .before .before .pre ∙ row-past lifecycleOf layout.lifecycles (now (a .p)) (a .n) h
-
-returns-3 : tie.Need-returns-3
-unfolding lifecycleAt
-returns-3 c =
-    let w = c .before .before .before .words .ensures in
-    simp (c .lifecycle-of2 .ensures, c .before .high .ensures, c .before .before .words2 .ensures .first, w .first, second-at _ 4 w)
+    c .before .before .pre .1 ∙ row-past lifecycleOf layout.lifecycles (now (a .p)) (a .n) h
 
 pub lifecycle-or-spec : {M : Type 1} → statement M
 lifecycle-or-spec =
@@ -43,13 +37,4 @@ lifecycle-or-spec =
     (λ c κs. search needs)
     (λ c κs. search needs)
     returns
-    returns-2
-    (λ c. search needs)
-    (λ c. search needs)
-    (λ c κs. search needs)
-    (λ c. search needs)
-    (λ c. search needs)
-    (λ c κs. search needs)
-    (λ c κs. search needs)
-    (λ c κs. search needs)
-    returns-3)
+    returns-2)

@@ -16,7 +16,7 @@ unfolding startupAt
 returns c =
     let a = c .before .before .args in
     let h : length (now (a .p)) ≤ a .n * 64 = omega arith in
-    c .before .before .pre ∙ row-past startupOf layout.startups (now (a .p)) (a .n) h
+    c .before .before .pre .1 ∙ row-past startupOf layout.startups (now (a .p)) (a .n) h
 
 returns-2 : tie.Need-returns-2
 unfolding startupAt
