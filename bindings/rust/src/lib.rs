@@ -78,31 +78,34 @@ extern "C" {
     ) -> u32;
 }
 
-/// The numbers of an answer, written where the answer is: a refusal is them, and an answer of another kind is made of them.
-fn answer(check: Check, lent: [&[u8]; 3], accepted: fn(&[u64; 8]) -> Answer) -> Answer {
-    let mut answer = Answer::Refused(Refusal { len: 0, values: [0; 8] });
-    if let Answer::Refused(Refusal { len, values }) = &mut answer {
-        let [pack, batch, house] = lent;
-        // SAFETY: each pointer has its own slice's length, nothing writes a slice while it is lent, and `values` is this call's alone.
-        *len = unsafe {
-            check(pack.as_ptr(), pack.len(), batch.as_ptr(), batch.len(), house.as_ptr(), house.len(), values)
-        } as usize;
-        if values[0] == 0 {
-            answer = accepted(values);
-        }
-    }
-    answer
+/// What a check wrote: how many numbers, and the numbers.
+fn numbers(check: Check, lent: [&[u8]; 3]) -> Refusal {
+    let [pack, batch, house] = lent;
+    let mut written = [0; 8];
+    // SAFETY: each pointer has its own slice's length, nothing writes a slice while it is lent, and `written` is this call's alone.
+    let len = unsafe {
+        check(pack.as_ptr(), pack.len(), batch.as_ptr(), batch.len(), house.as_ptr(), house.len(), &mut written)
+    } as usize;
+    // One by one: a plain copy reads two at once, and waits until both writes of 8 bytes have left the processor.
+    // SAFETY: each is a reference to a number.
+    let values = written.each_ref().map(|number| unsafe { std::ptr::read_volatile(number) });
+    Refusal { len, values }
 }
 
 /// Checks a station's image.
 pub fn check_enclave(pack: &[u8], batch: &[u8], house: &[u8]) -> Answer {
-    answer(check_enclave_image, [pack, batch, house], |values| Answer::Enclave { links: values[1] })
+    let refusal = numbers(check_enclave_image, [pack, batch, house]);
+    match refusal.values {
+        [0, links, ..] => Answer::Enclave { links },
+        _ => Answer::Refused(refusal),
+    }
 }
 
 /// Checks a line's image.
 pub fn check_federate(pack: &[u8], batch: &[u8], house: &[u8]) -> Answer {
-    answer(check_federate_image, [pack, batch, house], |values| Answer::Federate {
-        enclaves: values[1],
-        links: values[2],
-    })
+    let refusal = numbers(check_federate_image, [pack, batch, house]);
+    match refusal.values {
+        [0, enclaves, links, ..] => Answer::Federate { enclaves, links },
+        _ => Answer::Refused(refusal),
+    }
 }
