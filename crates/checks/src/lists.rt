@@ -180,7 +180,7 @@ pub fn check_action(s: &TableStarts, table: u8, index: u32, action: ActionIndex)
     Outcome::Passed
 }
 
-// Whether an entry, read as one number, names a reaction that is there and has the entry's level. A record past the pack is left to the full check, here and below, so that the loops call nothing to read one.
+// Whether an entry, read as one number, names a reaction that is there and has the entry's level. A record past the pack is left to the full check, here and below, so that the readers need not test for it again.
 fn has_level(p: &[u8], s: &TableStarts, pair: u64) -> bool
     requires { ⌜ Whole (now p) ⌝ }
     ensures { λ r. ⌜ ((t i : ℕ) → PassesIf (levelRefChecks (rowsOf (now (s .entry))) (reactionsAt (now (p .entry)) (now (s .entry))) t i (entryOf pair)) r) ⌝ }

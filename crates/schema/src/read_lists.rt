@@ -1,4 +1,4 @@
-// Readers of the list tables 8 to 22, by slice and record number. A record past the pack is the empty row.
+// Readers of the list tables 8 to 22, by slice and record number, of a pack of whole records. A record past the pack is the empty row.
 ghost use mathlib.Core.Path.{_≡_};
 ghost use Prim.Native.Nat.{_/_, _%_};
 ghost use Rattle.schema.specs.Rows.{Whole, empty, indexOf, levelOf, startupOf, lifecycleOf, indexAt, levelAt, startupAt, lifecycleAt};
