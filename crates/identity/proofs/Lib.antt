@@ -8,3 +8,4 @@ pub mod Valid
 pub mod Order
 pub mod Text
 pub mod Window
+pub mod Short

@@ -52,13 +52,24 @@ every-eight test o a b ea eb = rw (ea, eb) (sym (every-add test o 4 4))
 every-first : (test : ℕ → Bool) (o i k : ℕ) → every test o (i + k) ≡ true → every test o i ≡ true
 every-first test o i k e = both (every test o i) (every test (o + i) k) (sym (every-add test o i k) ∙ e) .0
 
+-- two parts that leave no place out, the first k of n and the last k
+middle : (x y z : Bool) → (x && y) && (y && z) ≡ x && (y && z)
+middle true true z = refl
+middle true false z = refl
+middle false y z = refl
+
+pub every-overlap : (test : ℕ → Bool) (k n : ℕ) {a b : Bool} → k ≤ n → n ≤ k + k → a ≡ every test 0 k → b ≡ every test (n - k) k → a && b ≡ every test 0 n
+every-overlap test k n l h ea eb =
+    let i : (n - k) + (k - (n - k)) ≡ k = omega arith in
+    let j : (k - (n - k)) + (n - k) ≡ k = omega arith in
+    let m : (n - k) + k ≡ n = omega arith in
+    let x = rw (i, zero-add) at (every-add test 0 (n - k) (k - (n - k))) in
+    let y = rw j at (every-add test (n - k) (k - (n - k)) (n - k)) in
+    let z = rw (m, zero-add) at (every-add test 0 (n - k) k) in
+    rw (ea, eb, x, z, y) (middle (every test 0 (n - k)) (every test (n - k) (k - (n - k))) _)
+
 pub run-overlap : {test : ℕ → Bool} (k n : ℕ) {a b : Bool} → k ≤ n → n ≤ k + k → a ≡ every test 0 k → b ≡ every test (n - k) k → a && b ≡ true → Run test 0 n n
-run-overlap {test} k n {a} {b} l h ea eb t =
-    let p = both a b t in
-    let first : (n - k) + (k - (n - k)) ≡ k = omega arith in
-    let all : (n - k) + k ≡ n = omega arith in
-    let f = every-first test 0 (n - k) (k - (n - k)) (rw first (sym ea ∙ p .0)) in
-    record { inside = omega arith; all = rw (← all, every-add test 0 (n - k) k, f, zero-add) (sym eb ∙ p .1) }
+run-overlap {test} k n l h ea eb t = record { inside = omega arith; all = sym (every-overlap test k n l h ea eb) ∙ t }
 
 -- the loop over blocks
 pub run-none : (test : ℕ → Bool) (o end : ℕ) → o ≤ end → Run test o 0 end

@@ -1,8 +1,8 @@
 // The part of a lent text that an identity's place names.
 ghost use mathlib.Core.Path.{_≡_};
-ghost use mathlib.Core.Bool.{true, cond};
-ghost use Rattle.identity.specs.Utf8.{utf8};
+ghost use mathlib.Core.Bool.{cond};
 ghost use Rattle.identity.specs.Text.{partAt, partPointer, namedText, placeInside, identityText, identityPointer};
+ghost use Rattle.identity.specs.Short.{namesAscii};
 use crate::IdentityPlace;
 
 // The `len` bytes of `text` from `start`, or the empty part at the text's start where that place is outside.
@@ -45,7 +45,7 @@ pub fn identity_text<'a>(batch: &'a [u8], house: &'a [u8], place: IdentityPlace)
 
 // Whether a place is inside its text and names 4 to 16 bytes of ASCII: a quick test for callers that have many, the text chosen once.
 pub fn names_ascii<'a>(batch: &'a [u8], house: &'a [u8], place: IdentityPlace) -> bool
-    ensures { λ r. ⌜ (r ≡ true → (placeInside (now (batch .entry)) (now (house .entry)) place ≡ true) × (utf8 (identityText (now (batch .entry)) (now (house .entry)) place) ≡ true)) ⌝ }
+    ensures { λ r. ⌜ r ≡ namesAscii (now (batch .entry)) (now (house .entry)) place ⌝ }
 {
     let text = named_text(batch, house, place);
     let begin = place.start as usize;

@@ -5,6 +5,7 @@ ghost use Prim.Native.Nat.{_+_, _-_, _<_, _≤_};
 ghost use lib.ListN.{length};
 ghost use Rattle.identity.specs.Utf8.{utf8};
 ghost use Rattle.identity.specs.Identity.{validId};
+ghost use Rattle.identity.specs.Short.{shortAscii};
 ghost use Rattle.identity.specs.Scan.{ascii, printable, visible, every, asciiAt, printableAt, visibleAt, Run, Passed, Stepped, utf8From, idFrom};
 ghost use Rattle.identity.specs.Window.{due, lowAfter, second, starts, fits, fitsAt, quietAt};
 use crate::decode::Decoded;
@@ -277,7 +278,7 @@ fn visible_eight(text: &[u8], at: usize) -> bool
 
 // Whether a text is 4 to 16 bytes of ASCII, by its first and its last 4 or 8, which leave none out: a quick test that spares short texts the scan.
 pub fn short_ascii(text: &[u8]) -> bool
-    ensures { λ r. ⌜ (r ≡ true → utf8 (now (text .entry)) ≡ true) ⌝ }
+    ensures { λ r. ⌜ r ≡ shortAscii (now (text .entry)) ⌝ }
 {
     let len = text.len();
     if len < 4 {
