@@ -4,9 +4,9 @@ use mathlib.Core.Bool.{true, false, _&&_}
 use mathlib.Core.Path.{_≡_, refl, _∙_, sym}
 use mathlib.Core.List.{List}
 use native.Mathlib.Omega.{arith}
-use lib.Dec.{ltb, leb}
+use lib.Dec.{ltb, leb, eqb}
 use lib.ListN.{length}
-use borrow.Author.Tests.{ltb-true, ltb-false, le-leb, eqb-true, ne-eqb}
+use borrow.Author.Tests.{ltb-true, ltb-false, leb-true, eqb-true, lt-ltb, le-leb, ne-eqb}
 use Rattle.identity.specs.declared.IdentityPlace.{IdentityPlace}
 use Rattle.identity.specs.Utf8.{utf8}
 use Rattle.identity.specs.Text.{placeInside, identityText}
@@ -20,32 +20,61 @@ use Rattle.packing.specs.declared.PackKind.{PackKind}
 use Rattle.packing.specs.declared.PackKind.the-variants.{Enclave, Federate}
 use Rattle.packing.specs.Shape.{layoutOf}
 use Rattle.packing.specs.Clean.{clean}
-use Rattle.packing.specs.Packing.{rowAfter, firstTable, tableAfter, inPlace, identityAt, recordChecks}
-use Rattle.packing.specs.Runs.{CleanRun, RunLimit, NamedRun, NamedPassed, namedChecks}
+use Rattle.packing.specs.Packing.{rowAfter, tableAfter, inPlace, identityAt, recordChecks}
+use Rattle.packing.specs.Runs.{After, CleanRun, RunLimit, NamedRun, NamedPassed, namedChecks}
 use Rattle.packing.proofs.Tests.{cases, both, and-next}
 use Rattle.packing.proofs.CheckRuns.{Left, left-from, left-past, run-passes, run-same}
 
--- a row's table may repeat
-row-again : (u t : ℕ) → rowAfter u t ≡ true → rowAfter t t ≡ true
-row-again u t h =
+-- the table of a record in its place
+pub row-known : (u t : ℕ) → rowAfter u t ≡ true → (2 ≤ t) × ((t < 25) × (u ≤ t))
+unfolding layouts
+row-known u t h =
     let a = both (leb 2 t) (ltb t (length layouts) && leb u t) h in
     let b = both (ltb t (length layouts)) (leb u t) (a .1) in
-    rw (a .0, b .0) (le-leb t t (omega arith))
+    (leb-true 2 t (a .0), (ltb-true t 25 (b .0), leb-true u t (b .1)))
 
-after-again : (kind : PackKind) (u t : ℕ) → 2 ≤ t → tableAfter kind u t ≡ true → tableAfter kind t t ≡ true
-after-again Enclave u t l h = row-again u t h
-after-again Federate u t l h =
-    let n = ne-eqb t 1 (λ e. omega arith) in
-    let r = both (leb 1 u) (rowAfter u t) (rw n at h) .1 in
-    rw (n, le-leb 1 t (omega arith)) (row-again u t r)
+pub table-known : (kind : PackKind) (p : List ℕ) (n : ℕ) → inPlace kind p n ≡ true → byteOf p n 0 < 25
+table-known Enclave p zero h = let e = eqb-true (byteOf p 0 0) 1 h in omega arith
+table-known Federate p zero h = let e = eqb-true (byteOf p 0 0) 0 h in omega arith
+table-known Enclave p (suc n) h = row-known _ _ h .1 .0
+table-known Federate p (suc n) h =
+    cases (eqb (byteOf p (suc n) 0) 1)
+    (λ b. let e = eqb-true (byteOf p (suc n) 0) 1 b in omega arith)
+    (λ b. row-known _ _ (both (leb 1 (byteOf p n 0)) (rowAfter (byteOf p n 0) (byteOf p (suc n) 0)) (rw b at h) .1) .1 .0)
 
-first-low : (kind : PackKind) → firstTable kind < 2
-first-low Enclave = omega arith
-first-low Federate = omega arith
+-- a row's table may follow an earlier one, and itself
+row-rises : (u t : ℕ) → u ≤ t → 2 ≤ t → t < 25 → rowAfter u t ≡ true
+unfolding layouts
+row-rises u t l a b = rw (le-leb 2 t a, lt-ltb t 25 b) (le-leb u t l)
+
+pub after-rises : (kind : PackKind) (u t : ℕ) → 1 ≤ u → u ≤ t → 2 ≤ t → t < 25 → tableAfter kind u t ≡ true
+after-rises Enclave u t f l a b = row-rises u t l a b
+after-rises Federate u t f l a b = rw (ne-eqb t 1 (λ e. omega arith), le-leb 1 u f) (row-rises u t l a b)
 
 place-again : (kind : PackKind) (p : List ℕ) (n m : ℕ) → inPlace kind p n ≡ true → 2 ≤ byteOf p n 0 → byteOf p m 0 ≡ byteOf p n 0 → byteOf p (suc m) 0 ≡ byteOf p n 0 → inPlace kind p (suc m) ≡ true
-place-again kind p zero m h l e f = absurd (omega (arith, first-low kind, eqb-true (byteOf p 0 0) (firstTable kind) h))
-place-again kind p (suc n) m h l e f = rw (e, f) (after-again kind (byteOf p n 0) (byteOf p (suc n) 0) l h)
+place-again kind p n m h l e f = rw (e, f) (after-rises kind _ _ (omega arith) (omega arith) l (table-known kind p n h))
+
+-- the table right after that of a record in its place may follow it
+enclave-from : (p : List ℕ) (n : ℕ) → inPlace Enclave p n ≡ true → 1 ≤ byteOf p n 0
+enclave-from p zero h = let e = eqb-true (byteOf p 0 0) 1 h in omega arith
+enclave-from p (suc n) h = let l : 2 ≤ byteOf p (suc n) 0 = row-known _ _ h .0 in omega arith
+
+next-table : (kind : PackKind) (p : List ℕ) (n : ℕ) → inPlace kind p n ≡ true → byteOf p n 0 + 1 < 25 → tableAfter kind (byteOf p n 0) (byteOf p n 0 + 1) ≡ true
+next-table Enclave p n h l =
+    let f = enclave-from p n h in
+    after-rises Enclave (byteOf p n 0) (byteOf p n 0 + 1) f (omega arith) (omega arith) l
+next-table Federate p n h l =
+    cases (ltb 0 (byteOf p n 0))
+    (λ b. let f = ltb-true 0 (byteOf p n 0) b in after-rises Federate (byteOf p n 0) (byteOf p n 0 + 1) (omega arith) (omega arith) (omega arith) l)
+    (λ b. let f = ltb-false 0 (byteOf p n 0) b in let e : byteOf p n 0 ≡ 0 = omega arith in rw e)
+
+pub next-in-place : (kind : PackKind) (p : List ℕ) (n t : ℕ) → After kind p n t → byteOf p n 0 ≡ t → t < 25 → inPlace kind p n ≡ true
+next-in-place kind p zero t a e l = let z = a .none refl in absurd (omega arith)
+next-in-place kind p (suc n) t a e l =
+    let b = a .some (λ z. omega arith) in
+    let m : suc n - 1 ≡ n = omega arith in
+    let q : t ≡ byteOf p n 0 + 1 = rw m at (b .0) in
+    rw (e, q) (next-table kind p n (rw m at (b .1)) (omega arith))
 
 module _ (kind : PackKind) {p : List ℕ} {t n limit r records : ℕ} (c : CleanRun p t n limit r) (b : RunLimit t n records limit) (h : inPlace kind p n ≡ true) where
   -- a second record: the table may repeat
@@ -54,7 +83,7 @@ module _ (kind : PackKind) {p : List ℕ} {t n limit r records : ℕ} (c : Clean
       let i = c .inside in
       cases (ltb t 2) (λ g. absurd (omega (arith, b .alone (ltb-true t 2 g)))) (λ g. ltb-false t 2 g)
 
-  run-in-place : (j : ℕ) → n ≤ j → j < r → inPlace kind p j ≡ true
+  pub run-in-place : (j : ℕ) → n ≤ j → j < r → inPlace kind p j ≡ true
   run-in-place zero l m = let e : n ≡ 0 = omega arith in rw e at h
   run-in-place (suc j) l m =
       cases (ltb n (suc j))

@@ -11,10 +11,11 @@ use lib.ListN.{length, getD, take, set, length-set, length-append, List·getD-ap
 use lib.Seq.{getD-at, take-suc-set, take-all}
 use borrow.Author.Tests.{ltb-true, ltb-false, leb-false, eqb-true, lt-ltb, le-ltb, lt-leb, le-leb}
 use Rattle.schema.specs.Rows.{byteOf}
+use Rattle.packing.specs.declared.PackKind.{PackKind}
 use Rattle.packing.proofs.Tests.{cases, both, neither, and-next}
 use Rattle.packing.proofs.Records.{table-at}
 use Rattle.packing.specs.Starts.{recordsOf, reaches, firstReaching, tableStart, startsBelow, tableStarts}
-use Rattle.packing.specs.Runs.{OneTable, ofTable, Reached, FixedAt, startsAt}
+use Rattle.packing.specs.Runs.{OneTable, ofTable, Reached, FixedAt, startsAt, After, RowsFixed}
 
 reaching : (a b : Bool) (d e : ℕ) → not a || (b || leb d e) ≡ false → (a ≡ true) × (e < d)
 reaching true true d e h = absurd (true≢false h)
@@ -228,6 +229,18 @@ at-next {k} {last} {t} {s} {r} {w} f h =
       is = rw (e, d, f .is);
     }
 
+-- all of them
+pub at-all : {k last t r : ℕ} {s w : List ℕ} → last < r → t ≤ last + 1 → FixedAt k last t s r w → FixedAt k last t s (last + 1) w
+at-all {k} {last} {t} {r} {s} {w} l h f =
+    let a = f .after in
+    let e : r ≡ last + 1 = cases (ltb t r) (λ b. let d = ltb-true t r b in let g = f .these (r - 1) (omega arith) (omega arith) in omega arith) (λ b. let d = ltb-false t r b in omega arith) in
+    rw e at f
+
+-- one of them
+pub rows-one : {kind : PackKind} {p : List ℕ} {n t : ℕ} (s : List ℕ) → After kind p n t → t < 25 → RowsFixed kind n t t s (set s t n)
+rows-one {kind} {p} {n} {t} s a l =
+    record { none = λ z. let e = a .none z in absurd (omega arith); rows = λ _ _ _. at-next (at-none n t t s) (omega arith) }
+
 -- the loop: the starts of the tables below t stand in s, and no record before k reaches table t
 pub record Fixed (p : List ℕ) (rows : ℕ) (s : List ℕ) (t k : ℕ) : Type 0 where
   pub within : t ≤ 26
@@ -239,6 +252,11 @@ pub record Fixed (p : List ℕ) (rows : ℕ) (s : List ℕ) (t k : ℕ) : Type 0
 pub fixed-none : (p : List ℕ) (rows : ℕ) (s : List ℕ) → length s ≡ 26 → Fixed p rows s 0 rows
 unfolding startsBelow
 fixed-none p rows s e = record { within = omega arith; sized = e; done = refl; near = omega arith; short = short-none p 0 rows }
+
+-- what stands at table t and after it may be anything
+pub fixed-kept : {p : List ℕ} {rows : ℕ} {s w : List ℕ} {t k : ℕ} → Fixed p rows s t k → length w ≡ length s → take t w ≡ take t s → Fixed p rows w t k
+fixed-kept f l e =
+    record { within = f .within; sized = l ∙ f .sized; done = e ∙ f .done; near = f .near; short = f .short }
 
 -- records of one table reach the same tables
 same-reach : (p : List ℕ) (t j k : ℕ) → j < recordsOf p → k < recordsOf p → byteOf p j 0 ≡ byteOf p k 0 → reaches p t j ≡ reaches p t k

@@ -1,5 +1,5 @@
 -- What holds of every table's layout, by computing over the list of layouts. Assumes nothing.
-use Prim.Native.Nat.{ℕ, zero, suc, _+_, _*_, _%_, _<_, _≤_}
+use Prim.Native.Nat.{ℕ, zero, suc, _+_, _*_, _-_, _%_, _<_, _≤_}
 use mathlib.Core.Bool.{Bool, true, _&&_}
 use mathlib.Core.Path.{_≡_, refl}
 use mathlib.Core.List.{List, [], _∷_}
@@ -13,8 +13,9 @@ use Rattle.schema.specs.Layout.{Layout, plain, layouts, bytes, offset, fieldAt}
 use Rattle.schema.specs.Rows.{byteOf, bitOf}
 use Rattle.packing.proofs.Tests.{cases, both}
 use Rattle.packing.specs.declared.shape.Governed.{Governed}
-use Rattle.packing.specs.Shape.{layoutOf, used, governed}
+use Rattle.packing.specs.Shape.{layoutOf, used, governed, shapeOf}
 use Rattle.packing.specs.Packing.{packFits, identityAt}
+use Rattle.packing.specs.Runs.{ListTable}
 
 -- k is none of the n numbers from 0 on: what the last arm of a match over them knows
 abbrev pub NoneOf : ℕ → ℕ → Type 0
@@ -86,6 +87,26 @@ below-at f (suc k) j e h =
     cases (ltb j k)
     (λ t. below-at f k j (b .0) (ltb-true j k t))
     (λ n. let l = ltb-false j k n in let q : j ≡ k = omega arith in rw q (b .1))
+
+-- the tables of lists govern no field, end in the first half and have no identities
+listed : ℕ → Bool
+listed t =
+    (eqb (shapeOf t .«bit_0» .len) 0 && eqb (shapeOf t .«bit_1» .len) 0)
+    && (leb (shapeOf t .used) 32 && eqb (layoutOf t .identities) 0)
+
+pub list-table : (t : ℕ) → 8 ≤ t → t ≤ 22 → ListTable t
+unfolding layouts below listed
+list-table t l h =
+    let e : 8 + (t - 8) ≡ t = omega arith in
+    let a = both _ _ (rw e at (below-at (λ j. listed (8 + j)) 15 (t - 8) refl (omega arith))) in
+    let b = both _ _ (a .0) in
+    let d = both _ _ (a .1) in
+    record {
+      from = l;
+      upto = h;
+      shaped = record { none-0 = eqb-true _ _ (b .0); none-1 = eqb-true _ _ (b .1); half = leb-true _ _ (d .0) };
+      unnamed = eqb-true _ _ (d .1);
+    }
 
 -- identity j is two W at byte 4 + 8 j, inside the record, and has a house bit
 pairAt : Layout → ℕ → Bool

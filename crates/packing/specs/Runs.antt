@@ -4,16 +4,16 @@ use mathlib.Core.Bool.{Bool, true, false, _&&_}
 use mathlib.Core.Path.{_≡_}
 use mathlib.Core.List.{List}
 use lib.Dec.{ltb, leb, eqb}
-use lib.ListN.{getD, length, set}
+use lib.ListN.{getD, length, set, take}
 use Rattle.answers.specs.declared.Outcome.the-variants.{Passed}
 use Rattle.answers.specs.Checks.{Check, first, run}
 use Rattle.schema.specs.Rows.{byteOf}
 use Rattle.packing.specs.declared.PackKind.{PackKind}
 use Rattle.packing.specs.declared.PackKind.the-variants.{Enclave}
 use Rattle.packing.specs.declared.shape.Shape.{Shape}
-use Rattle.packing.specs.Shape.{layoutOf}
+use Rattle.packing.specs.Shape.{layoutOf, shapeOf}
 use Rattle.packing.specs.Clean.{zeros, clean}
-use Rattle.packing.specs.Packing.{identityChecks}
+use Rattle.packing.specs.Packing.{inPlace, identityChecks}
 use Rattle.packing.specs.Starts.{recordsOf, reaches}
 
 -- the records from k up to r are of one table
@@ -43,10 +43,15 @@ pub record FixedAt (k last t : ℕ) (s : List ℕ) (r : ℕ) (w : List ℕ) : Ty
   pub these : (j : ℕ) → t ≤ j → j < r → j ≤ last
   pub is : w ≡ startsAt k t (r - t) s
 
--- the same at record n of an enclave's pack, from its first row on; at record 0 nothing is done
-pub record RowsFixed (kind : PackKind) (n last t : ℕ) (s : List ℕ) (r : ℕ) (w : List ℕ) : Type 0 where
-  pub none : n ≡ 0 → (r ≡ t) × (w ≡ s)
-  pub rows : kind ≡ Enclave → (n ≡ 0 → ⊥) → (last < r) × FixedAt n last t s r w
+-- the record before record n is in its place, of the table before t; before record 0 there is none, and t is none of the tables
+pub record After (kind : PackKind) (p : List ℕ) (n t : ℕ) : Type 0 where
+  pub none : n ≡ 0 → t ≡ 26
+  pub some : (n ≡ 0 → ⊥) → (t ≡ byteOf p (n - 1) 0 + 1) × (inPlace kind p (n - 1) ≡ true)
+
+-- w is s with record n as the start of the tables from t up to `last`, in an enclave's pack, from its first row on; at record 0 nothing is done
+pub record RowsFixed (kind : PackKind) (n last t : ℕ) (s w : List ℕ) : Type 0 where
+  pub none : n ≡ 0 → w ≡ s
+  pub rows : kind ≡ Enclave → (n ≡ 0 → ⊥) → t ≤ last + 1 → FixedAt n last t s (last + 1) w
 
 -- a shape that governs no field, whose fields end in the first half of the record
 pub record PlainShape (s : Shape) : Type 0 where
@@ -66,6 +71,28 @@ pub record CleanRun (p : List ℕ) (t n limit r : ℕ) : Type 0 where
   pub same : (j : ℕ) → n ≤ j → j < r → byteOf p j 0 ≡ t
   pub tidy : (j : ℕ) → n ≤ j → j < r → clean p j ≡ true
   pub ended : r < limit → byteOf p r 0 ≡ t → clean p r ≡ false
+
+-- a table of lists: its shape is plain, and its records have no identities
+pub record ListTable (t : ℕ) : Type 0 where
+  pub from : 8 ≤ t
+  pub upto : t ≤ 22
+  pub shaped : PlainShape (shapeOf t)
+  pub unnamed : layoutOf t .identities ≡ 0
+
+-- the records from n up to r are clean, of table u and then of lists' tables right after one another, up to table t; w is s with the starts of those after u
+pub data ListRun (p : List ℕ) (u n : ℕ) (s : List ℕ) : ℕ → ℕ → List ℕ → Type 0 where
+  list-start : ListRun p u n s u n s
+  list-same : {t r : ℕ} {w : List ℕ} → ListRun p u n s t r w → byteOf p r 0 ≡ t → clean p r ≡ true → ListRun p u n s t (r + 1) w
+  list-next : {t r : ℕ} {w : List ℕ} → ListRun p u n s t r w → ListTable (t + 1) → byteOf p r 0 ≡ t + 1 → clean p r ≡ true → ListRun p u n s (t + 1) (r + 1) (set w (t + 1) r)
+
+-- such a run, where w may have a start of its own after the last table's
+pub record ListsPast (p : List ℕ) (u n : ℕ) (s : List ℕ) (r : ℕ) (w : List ℕ) : Type 0 where
+  pub last : ℕ
+  pub fixed : List ℕ
+  pub inside : r ≤ length p / 64
+  pub listed : ListRun p u n s last r fixed
+  pub sized : length w ≡ length fixed
+  pub kept : take (last + 1) w ≡ take (last + 1) fixed
 
 -- a run of table t from record n ends by r: with record n where the table is below 2
 pub record RunLimit (t n records r : ℕ) : Type 0 where

@@ -7,14 +7,17 @@ ghost use lib.Dec.{ltb, leb, eqb};
 ghost use Rattle.schema.specs.Rows.{byteOf};
 ghost use Rattle.packing.specs.Shape.{shapeOf};
 ghost use Rattle.packing.specs.Clean.{zeros, clean};
-ghost use Rattle.packing.specs.Runs.{PlainShape, CleanRun, plainFrom};
+ghost use Rattle.packing.specs.Runs.{PlainShape, CleanRun, ListTable, ListsPast, plainFrom};
 use crate::shape::Governed;
+use crate::shape::LAST_LIST;
 use crate::shape::Shape;
+use crate::shape::shape_of;
+use schema::TableStarts;
 use schema::number::long_inside;
 use schema::number::word_inside;
 use schema::read::bit;
 
-fn wide(x: u8) -> usize
+pub fn wide(x: u8) -> usize
     ensures { λ r. ⌜ (r ≡ x) × (r < 256) ⌝ }
 {
     x as usize
@@ -145,18 +148,28 @@ fn is_plain(p: &[u8], start: usize, shape: Shape) -> bool
     zeros_32(p, start + wide(shape.used)) & zeros_32(p, start + 32)
 }
 
-// How far from n on the records are of `table`, with nothing in bytes 1 to 3 or past the last field: told by one number, and clean by any plain shape.
-fn past_bare(p: &[u8], n: usize, table: u8, shape: Shape, limit: usize) -> usize
-    requires { ⌜ (n ≤ limit) × ((limit ≤ length (now p) / 64) × ((shape ≡ shapeOf table) × PlainShape shape)) ⌝ }
-    ensures { λ r. ⌜ (r ≤ limit) × CleanRun (now (p .entry)) table n r r ⌝ }
+// How far from n on the records are of `table`, a list's, and of the lists' tables right after one another, with nothing in bytes 1 to 3 or past the last field: told by one number, and clean. The starts of the tables after `table` are written.
+pub fn past_lists(p: &[u8], starts: &mut TableStarts, n: usize, table: u8) -> usize
+    requires { ⌜ (n < length (now p) / 64) × ((length (now p) / 64 < 4294967296) × ListTable table) ⌝ }
+    ensures { λ r. ⌜ ListsPast (now (p .entry)) table n (now (starts .entry)) r (now (starts .exit)) ⌝ }
 {
-    let head = (table as u32) * 0x100_0000;
+    let records = p.len() / 64;
     let mut next = n;
-    while next < limit {
-        if word_inside(p, next * 64) != head {
-            return next;
+    let mut t = table;
+    let mut head = (t as u32) * 0x100_0000;
+    let mut used = wide(shape_of(t).used);
+    while next < records {
+        let word = word_inside(p, next * 64);
+        if word != head {
+            if (LAST_LIST <= t) | (word != head + 0x100_0000) {
+                return next;
+            }
+            t += 1;
+            head = word;
+            used = wide(shape_of(t).used);
+            starts[t as usize] = next as u32;
         }
-        if !(zeros_32(p, next * 64 + wide(shape.used)) & zeros_32(p, next * 64 + 32)) {
+        if !(zeros_32(p, next * 64 + used) & zeros_32(p, next * 64 + 32)) {
             return next;
         }
         next += 1;
@@ -169,7 +182,7 @@ fn past_plain(p: &[u8], n: usize, table: u8, shape: Shape, limit: usize) -> usiz
     requires { ⌜ (n ≤ limit) × ((limit ≤ length (now p) / 64) × ((shape ≡ shapeOf table) × PlainShape shape)) ⌝ }
     ensures { λ r. ⌜ CleanRun (now (p .entry)) table n limit r ⌝ }
 {
-    let mut next = past_bare(p, n, table, shape, limit);
+    let mut next = n;
     while next < limit {
         if p[next * 64] != table {
             return next;

@@ -8,10 +8,13 @@ ghost use Rattle.schema.specs.Rows.{byteOf, bitOf};
 ghost use Rattle.packing.specs.Shape.{layoutOf};
 ghost use Rattle.packing.specs.Packing.{packFits, textFits, rowAfter, firstTable, tableAfter, inPlace, identityAt, identityChecks, recordChecks, packingChecks};
 ghost use Rattle.packing.specs.Starts.{startsAfter};
-ghost use Rattle.packing.specs.Runs.{NamedRun, RunLimit, NamedPassed, RowsFixed, namedChecks};
+ghost use Rattle.packing.specs.Runs.{NamedRun, RunLimit, NamedPassed, After, RowsFixed, namedChecks};
 use crate::PackKind;
 use crate::clean::past_clean;
+use crate::clean::past_lists;
+use crate::clean::wide;
 use crate::shape::TABLES;
+use crate::shape::is_list;
 use crate::shape::shape_of;
 use crate::starts::fix_starts;
 use crate::walker::Record;
@@ -68,7 +71,7 @@ fn table_after(kind: PackKind, previous: u8, table: u8) -> bool
 }
 
 // Whether record n, of `table`, is in its place.
-fn in_place(kind: PackKind, pack: &[u8], n: u32, table: u8) -> bool
+fn in_place(kind: PackKind, pack: &[u8], n: usize, table: u8) -> bool
     requires { ⌜ (n < length (now pack) / 64) × (table ≡ byteOf (now pack) n 0) ⌝ }
     ensures { λ r. ⌜ r ≡ inPlace kind (now (pack .entry)) n ⌝ }
 {
@@ -76,7 +79,7 @@ fn in_place(kind: PackKind, pack: &[u8], n: u32, table: u8) -> bool
         return table == first_table(kind);
     }
     let before = n - 1;
-    table_after(kind, pack[before as usize * 64], table)
+    table_after(kind, pack[before * 64], table)
 }
 
 // Bit j of a byte.
@@ -208,21 +211,45 @@ fn limit_of(table: u8, n: usize, records: usize) -> usize
     records
 }
 
-// Fixes the starts of an enclave's tables from t to the last one at record n, and answers the table after them. Record 0 is the enclave's own, and a federate's pack has no such starts.
-fn fix_rows(kind: PackKind, starts: &mut TableStarts, t: usize, last: usize, n: usize) -> usize
+// Fixes the starts of an enclave's tables from t to the last one at record n. Record 0 is the enclave's own, and a federate's pack has no such starts.
+fn fix_rows(kind: PackKind, starts: &mut TableStarts, t: usize, last: usize, n: usize)
     requires { ⌜ (last < 26) × (n < 4294967296) ⌝ }
-    ensures { λ r. ⌜ RowsFixed kind n last t (now (starts .entry)) r (now (starts .exit)) ⌝ }
+    ensures { λ r. ⌜ RowsFixed kind n last t (now (starts .entry)) (now (starts .exit)) ⌝ }
 {
     let PackKind::Enclave = kind else {
-        return t;
+        return;
     };
     if n == 0 {
-        return t;
+        return;
     }
-    fix_starts(starts, t, last, n as u32)
+    fix_starts(starts, t, last, n as u32);
 }
 
-// Run by run, until the walker is at the end. A record of the same table after one in its place is in its place. `starts` is written at the end.
+// Whether record n, of `table`, is in its place, after one of the table before t. Where it is, the starts of an enclave's tables from t up to its own are fixed: mostly that is t alone.
+fn place_row(
+    kind: PackKind,
+    pack: &[u8],
+    starts: &mut TableStarts,
+    t: usize,
+    n: usize,
+    table: u8,
+) -> bool
+    requires { ⌜ (n < length (now pack) / 64) × ((length (now pack) / 64 < 4294967296) × ((table ≡ byteOf (now pack) n 0) × After kind (now pack) n t)) ⌝ }
+    ensures { λ r. ⌜ (r ≡ inPlace kind (now (pack .entry)) n) × (r ≡ true → RowsFixed kind n table t (now (starts .entry)) (now (starts .exit))) ⌝ }
+{
+    let u = wide(table);
+    if (u == t) & (u < TABLES) {
+        starts[u] = n as u32;
+        return true;
+    }
+    if !in_place(kind, pack, n, table) {
+        return false;
+    }
+    fix_rows(kind, starts, t, u, n);
+    true
+}
+
+// Run by run, until the walker is at the end; lists that follow one another are one run. A record of the same table after one in its place is in its place. The tables below t have their starts; t is 26 at record 0, and tables 0 and 1 start at record 1. `starts` is written at the end.
 fn check_records<'a>(
     kind: PackKind,
     pack: &'a [u8],
@@ -234,8 +261,8 @@ fn check_records<'a>(
     ensures { λ r. ⌜ Decides (run (recordChecks kind (now (pack .entry)) (now (batch .entry)) (now (house .entry))) 0 (length (now (pack .entry)) / 64)) r ⌝ }
     ensures { λ r. ⌜ (kind ≡ PackKind.Enclave → now (starts .exit) ≡ startsAfter r (now (pack .entry)) (now (starts .entry))) ⌝ }
 {
-    let mut found = [0u32; 26];
-    let mut t: usize = 0;
+    let mut found = [1u32; 26];
+    let mut t: usize = 26;
     let mut n: usize = 0;
     loop {
         let record = record_by_walker(pack, n);
@@ -245,10 +272,19 @@ fn check_records<'a>(
             return Outcome::Passed;
         };
         let place = n as u32;
-        if !in_place(kind, pack, place, table) {
+        if !place_row(kind, pack, &mut found, t, n, table) {
             return Outcome::Refused(Refusal::TableOutOfPlace { record: place });
         }
-        t = fix_rows(kind, &mut found, t, table as usize, n);
+        // A list's record with a stray byte is left to the test of any record.
+        if is_list(table) {
+            let listed = past_lists(pack, &mut found, n, table);
+            if n < listed {
+                let last = listed - 1;
+                t = wide(pack[last * 64]) + 1;
+                n = listed;
+                continue;
+            }
+        }
         let shape = shape_of(table);
         let next = past_clean(pack, n, table, shape, limit_of(table, n, pack.len() / 64));
         if next == n {
@@ -258,6 +294,7 @@ fn check_records<'a>(
         let Outcome::Passed = named else {
             return named;
         };
+        t = wide(table) + 1;
         n = next;
     }
 }

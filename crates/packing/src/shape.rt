@@ -1,6 +1,8 @@
 // What the packing rules ask of each table's layout, as data: one number for each table.
 ghost use mathlib.Core.Path.{_≡_};
+ghost use mathlib.Core.Bool.{true};
 ghost use Rattle.packing.specs.Shape.{unpacked, shapeOf};
+ghost use Rattle.packing.specs.Runs.{ListTable};
 
 // The bytes of a record that a presence bit governs: `len` of them from `offset`.
 pub struct Governed {
@@ -81,4 +83,13 @@ pub fn shape_of(table: u8) -> Shape
     ensures { λ r. ⌜ r ≡ shapeOf table ⌝ }
 {
     unpack(shape_number(table))
+}
+
+// The tables of lists, up to the last one: they govern no field and have no identities.
+pub const LAST_LIST: u8 = 22;
+
+pub fn is_list(table: u8) -> bool
+    ensures { λ r. ⌜ (r ≡ true → ListTable table) ⌝ }
+{
+    (8 <= table) & (table <= LAST_LIST)
 }

@@ -2,9 +2,11 @@
 use Prim.Native.Nat.{ℕ, _-_, _/_, _<_, _≤_}
 use mathlib.Core.Path.{_≡_, refl, _∙_, ap, sym}
 use mathlib.Core.List.{List}
+use mathlib.Core.Logic.{⊎-elim}
 use native.Mathlib.Omega.{arith}
 use lib.ListN.{length}
 use borrow.Author.Needs.{needs}
+use borrow.Author.Tests.{not-false}
 use denote.Ref.{now}
 use Rattle.answers.specs.Checks.{Check, run, Decides}
 use Rattle.answers.proofs.Laws.{pass, fail}
@@ -13,10 +15,11 @@ use Rattle.packing.specs.declared.shape.Shape.{Shape}
 use Rattle.packing.specs.Packing.{recordChecks}
 use Rattle.packing.proofs.Tests.{refused, held}
 use Rattle.packing.proofs.Tables.{pack-length}
-use Rattle.packing.proofs.Records.{record-inside, record-end}
+use Rattle.packing.proofs.Records.{record-inside, record-end, table-at}
 use Rattle.packing.proofs.CheckRuns.{Left, left-all, left-past, left-stop, left-none, one-item}
 use Rattle.packing.proofs.Places.{run-decides, run-stray, run-named}
-use Rattle.packing.proofs.EnclaveStarts.{Placed, placed-none, placed-run, placed-end, table-known}
+use Rattle.packing.proofs.ListRuns.{list-after, list-decides}
+use Rattle.packing.proofs.EnclaveStarts.{Placed, Ready, placed-none, ready, placed-run, placed-lists, ready-still, placed-end}
 use Rattle.packing.proofs.rules.check_records.Statement.{statement}
 use Rattle.packing.proofs.rules.check_records.Tie as tie
 
@@ -35,28 +38,40 @@ inside c =
     let r = record-inside (now (c .before .before .before .before .before .before .before .before .args .pack)) (c .before .before .before .before .loop .n) _ _ (sym (c .before .before .before .record-by-walker .ensures) ∙ c .before .«record» .given .1) in
     (r .0, r .1 .0)
 
+-- a pack that fits has fewer records than a u32 counts
+few : (c : tie.After-known-told Inv-loop μ-loop) → length (now (c .before .before .before .before .before .before .before .before .args .pack)) / 64 < 4294967296
+few c = omega (arith, pack-length (now (c .before .before .before .before .before .before .before .before .args .pack)) (c .before .before .before .before .before .before .before .before .pre))
+
+-- record n is in its place, and the starts up to its table are fixed
+here : (c : tie.Else1 Inv-loop μ-loop) → Ready (c .before .before .before .before .before .before .before .before .before .before .before .args .kind) (now (c .before .before .before .before .before .before .before .before .before .before .before .args .pack)) (c .before .place-row .last .1 .1 .0) (c .before .before .before .before .«record» .given .0 .0) (c .before .before .before .before .before .before .before .loop .n)
+here c =
+    let i = inside (c .before .before .before) in
+    ready (c .before .before .before .before .before .before .before .before .before .before .before .pre) (c .before .before .before .before .before .before .before .loop .inv .1 .0) (i .0) (held (c .before .place-row .ensures .0) (c .if1 .left)) (i .1) (c .before .place-row .ensures .1 (not-false _ (c .if1 .left)))
+
+-- so it is where no list was passed
+still : (c : tie.Joined2 Inv-loop μ-loop) → Ready (c .before .before .before .before .before .before .before .before .before .before .before .before .before .args .kind) (now (c .before .before .before .before .before .before .before .before .before .before .before .before .before .args .pack)) (c .if2 .found) (c .before .before .before .before .before .before .«record» .given .0 .0) (c .before .before .before .before .before .before .before .before .before .loop .n)
+still c =
+    let h = here (c .before .before) in
+    ⊎-elim
+    (λ w. rw (w .4) (ready-still (c .before .before .before .before .before .before .before .before .before .before .before .before .before .pre) h (c .before .is-list .ensures (w .0 .taken)) (w .2 .ensures) (λ l. omega (arith, w .3 .left))))
+    (λ w. rw (w .1) h)
+    (c .if2 .came)
+
+abbrev checks : tie.Start Inv-loop μ-loop → ℕ → List Check
+checks s = recordChecks (s .args .kind) (now (s .args .pack)) (now (s .args .batch)) (now (s .args .house))
+
 -- the run from record n ends inside, past n
-ends : (c : tie.Else2 Inv-loop μ-loop) → (c .before .before .before .before .before .before .before .before .before .before .before .before .loop .n < c .before .past-clean .result) × (c .before .past-clean .result ≤ length (now (c .before .before .before .before .before .before .before .before .before .before .before .before .before .before .before .before .args .pack)) / 64)
+ends : (c : tie.Else4 Inv-loop μ-loop) → (c .before .before .before .before .before .before .before .before .before .before .before .before .before .loop .n < c .before .past-clean .result) × (c .before .past-clean .result ≤ length (now (c .before .before .before .before .before .before .before .before .before .before .before .before .before .before .before .before .before .args .pack)) / 64)
 ends c =
     let k = c .before .past-clean .ensures in
     let l = c .before .before .limit-of .ensures in
     (omega (arith, k .after), omega (arith, k .inside, l .inside))
 
-abbrev checks : tie.Start Inv-loop μ-loop → ℕ → List Check
-checks s = recordChecks (s .args .kind) (now (s .args .pack)) (now (s .args .batch)) (now (s .args .house))
-
 -- the checks of its records are decided
-decided : (c : tie.After-check-named Inv-loop μ-loop) → Decides (run (checks (c .before .before .before .before .before .before .before .before .before .before .before .before .before .before .before .before .before)) (c .before .before .before .before .before .before .before .before .before .before .before .before .before .loop .n) (c .before .before .past-clean .result - c .before .before .before .before .before .before .before .before .before .before .before .before .before .loop .n)) (c .check-named .result)
+decided : (c : tie.After-check-named Inv-loop μ-loop) → Decides (run (checks (c .before .before .before .before .before .before .before .before .before .before .before .before .before .before .before .before .before .before)) (c .before .before .before .before .before .before .before .before .before .before .before .before .before .before .loop .n) (c .before .before .past-clean .result - c .before .before .before .before .before .before .before .before .before .before .before .before .before .before .loop .n)) (c .check-named .result)
 decided c =
     let k = c .before .before in
-    run-decides _ (k .past-clean .ensures) (k .before .limit-of .ensures) (held (k .before .before .before .before .before .before .in-place .ensures) (k .before .before .before .before .before .if1 .left)) _ _ (c .check-named .ensures)
-
--- record n is in its place, so its table is known
-known : (c : tie.After-found2 Inv-loop μ-loop) → c .before .before .before .before .«record» .given .0 .0 < 25
-known c =
-    let s = c .before .before .before .before .before .before .before .before .before .before .before in
-    let h = table-known (s .args .kind) (now (s .args .pack)) (c .before .before .before .before .before .before .before .loop .n) (held (c .before .before .in-place .ensures) (c .before .if1 .left)) in
-    rw (inside (c .before .before .before) .1) h
+    run-decides _ (k .past-clean .ensures) (k .before .limit-of .ensures) (still (k .before .before .before) .here) _ _ (c .check-named .ensures)
 
 returns : tie.Need-returns Inv-loop μ-loop
 returns c =
@@ -68,20 +83,35 @@ returns c =
 returns-2 : tie.Need-returns-2 Inv-loop μ-loop
 unfolding recordChecks
 returns-2 c =
-    let i = inside (c .before .before) in
-    let v = c .before .before .before .before .before .before .loop .inv in
-    (left-stop (v .1 .1) (search needs) (search needs) (one-item _ _ (fail (refused (c .before .in-place .ensures) (c .if1 .taken)))) refl, λ k. v .0)
+    let i = inside (c .before .before .before) in
+    let v = c .before .before .before .before .before .before .before .loop .inv in
+    (left-stop (v .1 .1) (search needs) (search needs) (one-item _ _ (fail (refused (c .before .place-row .ensures .0) (c .if1 .taken)))) refl, λ k. v .0)
+
+-- lists are passed
+loop-again : tie.Need-loop-again Inv-loop μ-loop
+loop-again c =
+    let s = c .before .before .before .before .before .before .before .before .before .before .before .before .before .before .before .before .before .before in
+    let v = c .before .before .before .before .before .before .before .before .before .before .before .before .before .before .loop .inv in
+    let h = here (c .before .before .before .before .before .before .before) in
+    let l = c .before .before .before .before .before .before .is-list .ensures (c .before .before .before .before .before .if2 .taken) in
+    let y = c .before .before .before .past-lists .ensures in (
+      v .0,
+      (
+        rw (c .wide .ensures .0 ∙ sym (table-at (now (s .args .pack)) (c .before .before .before .past-lists .result - 1))) (placed-lists (s .pre) h l y (c .before .before .if3 .taken)),
+        left-past (v .1 .1) (list-after (y .listed)) (y .inside) (list-decides (s .args .kind) l (h .here) _ _ (y .listed)) refl,
+      ),
+    )
 
 returns-3 : tie.Need-returns-3 Inv-loop μ-loop
 unfolding recordChecks
 returns-3 c =
     let k = c .before in
-    let i = inside (c .before .before .before .before .before .before .before .before) in
-    let v = c .before .before .before .before .before .before .before .before .before .before .before .before .loop .inv in (
+    let i = inside (c .before .before .before .before .before .before .before .before .before) in
+    let v = c .before .before .before .before .before .before .before .before .before .before .before .before .before .loop .inv in (
       left-stop (v .1 .1) (search needs) (search needs)
           (one-item _ _
-          (pass (held (c .before .before .before .before .before .before .before .in-place .ensures) (c .before .before .before .before .before .before .if1 .left))
-          (fail (run-stray (k .past-clean .ensures) (k .before .limit-of .ensures) (c .if2 .taken) (i .1)))))
+          (pass (still (c .before .before .before .before) .here)
+          (fail (run-stray (k .past-clean .ensures) (k .before .limit-of .ensures) (c .if4 .taken) (i .1)))))
           refl,
       λ _. v .0,
     )
@@ -89,19 +119,18 @@ returns-3 c =
 returns-4 : tie.Need-returns-4 Inv-loop μ-loop
 returns-4 c =
     let e = ends (c .before .before .before) in
-    let v = c .before .before .before .before .before .before .before .before .before .before .before .before .before .before .before .loop .inv in
+    let v = c .before .before .before .before .before .before .before .before .before .before .before .before .before .before .before .before .loop .inv in
     (left-stop (v .1 .1) (search needs) (e .1) (decided (c .before .before)) (c .enum-told3 .given .1), λ k. rw (c .enum-told3 .given .1) (v .0))
 
-loop-again : tie.Need-loop-again Inv-loop μ-loop
-loop-again c =
-    let s = c .before .before .before .before .before .before .before .before .before .before .before .before .before .before .before .before .before .before .before in
-    let e = ends (c .before .before .before) in
-    let v = c .before .before .before .before .before .before .before .before .before .before .before .before .before .before .before .loop .inv in
-    let i = inside (c .before .before .before .before .before .before .before .before .before .before .before) in (
+loop-again-2 : tie.Need-loop-again-2 Inv-loop μ-loop
+loop-again-2 c =
+    let s = c .before .before .before .before .before .before .before .before .before .before .before .before .before .before .before .before .before .before .before .before .before in
+    let e = ends (c .before .before .before .before) in
+    let v = c .before .before .before .before .before .before .before .before .before .before .before .before .before .before .before .before .before .loop .inv in (
       v .0,
       (
-        placed-run (s .pre) (v .1 .0) (held (c .before .before .before .before .before .before .before .before .before .before .in-place .ensures) (c .before .before .before .before .before .before .before .before .before .if1 .left)) (i .1) (c .before .before .before .before .before .before .before .fix-rows2 .ensures) (c .before .before .before .before .past-clean .ensures) (c .before .before .before .before .before .limit-of .ensures) (e .0),
-        left-past (v .1 .1) (search needs) (e .1) (decided (c .before .before)) (c .enum-told2 .given .1),
+        rw (c .wide2 .ensures .0) (placed-run (s .pre) (still (c .before .before .before .before .before .before .before .before)) (c .before .before .before .before .before .past-clean .ensures) (c .before .before .before .before .before .before .limit-of .ensures) (e .0)),
+        left-past (v .1 .1) (search needs) (e .1) (decided (c .before .before .before)) (c .before .enum-told2 .given .1),
       ),
     )
 
@@ -111,24 +140,33 @@ check-records-spec =
     (tie.spec
     Inv-loop
     μ-loop
-    (λ c. (refl, (placed-none _ _ _ refl, left-all _ _)))
+    (λ c. (refl, (placed-none _ _, left-all _ _)))
     (λ c κs. search needs)
     (λ c. search needs)
     (λ c. search needs)
     (λ c κs. (omega arith, omega (arith, c .before .before .before .before .loop .inv .1 .1 .within, pack-length (now (c .before .before .before .before .before .before .before .before .args .pack)) (c .before .before .before .before .before .before .before .before .pre))))
     returns
-    (λ c. omega (arith, inside c .0, pack-length (now (c .before .before .before .before .before .before .before .before .args .pack)) (c .before .before .before .before .before .before .before .before .pre)))
-    (λ c κs. inside c)
+    (λ c. omega (arith, inside c .0, few c))
+    (λ c κs. (inside (c .before) .0, (few (c .before), (inside (c .before) .1, c .before .before .before .before .before .loop .inv .1 .0 .after))))
     returns-2
-    (λ c. let k = known c in omega arith)
-    (λ c κs. let k = known c in (omega arith, omega (arith, inside (c .before .before .before) .0, pack-length (now (c .before .before .before .before .before .before .before .before .before .before .before .args .pack)) (c .before .before .before .before .before .before .before .before .before .before .before .pre))))
     (λ c κs. search needs)
-    (λ c κs. inside (c .before .before .before .before .before) .0)
-    (λ c κs. (search needs, (search needs, c .before .shape-of .ensures)))
+    (λ c κs. (inside (c .before .before .before .before .before .before) .0, (few (c .before .before .before .before .before .before), c .before .before .is-list .ensures (c .before .if2 .taken))))
+    (λ c. search needs)
+    (λ c. search needs)
+    (λ c. search needs)
+    (λ c κs. search needs)
+    (λ c. search needs)
+    (λ c. search needs)
+    loop-again
+    (λ c κs. search needs)
+    (λ c κs. inside (c .before .before .before .before .before .before) .0)
+    (λ c κs. search needs)
     returns-3
-    (λ c κs. (c .before .before .before .before .before .before .before .before .before .before .before .before .before .before .before .before .pre, run-named (c .before .past-clean .ensures) (c .before .before .limit-of .ensures) _ (search needs) (ap (λ (x : Shape). x .identities) (c .before .before .before .shape-of .ensures))))
+    (λ c κs. (c .before .before .before .before .before .before .before .before .before .before .before .before .before .before .before .before .before .pre, run-named (c .before .past-clean .ensures) (c .before .before .limit-of .ensures) _ (search needs) (ap (λ (x : Shape). x .identities) (c .before .before .before .shape-of .ensures))))
     (λ c. search needs)
     (λ c. search needs)
     returns-4
-    (λ c. let e = ends (c .before .before .before) in omega arith)
-    loop-again)
+    (λ c κs. search needs)
+    (λ c. search needs)
+    (λ c. let e = ends (c .before .before .before .before) in omega arith)
+    loop-again-2)

@@ -32,6 +32,5 @@ in-place-spec =
     (λ c. search needs)
     (λ c. search needs)
     (λ c. search needs)
-    (λ c. search needs)
     (λ c κs. search needs)
     (λ c. later _ _ _ _ _ _ (c .before .before .if1 .left) (c .before .before .before .before .pre .1) (rw add-zero) (c .table-after .ensures)))
