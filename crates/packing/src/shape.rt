@@ -1,6 +1,7 @@
 // What the packing rules ask of each table's layout, as data: one number for each table.
 ghost use mathlib.Core.Path.{_≡_};
-ghost use mathlib.Core.Bool.{true};
+ghost use mathlib.Core.Bool.{true, _&&_};
+ghost use lib.Dec.{leb};
 ghost use Rattle.packing.specs.Shape.{unpacked, shapeOf};
 ghost use Rattle.packing.specs.Runs.{ListTable};
 
@@ -89,6 +90,7 @@ pub fn shape_of(table: u8) -> Shape
 pub const LAST_LIST: u8 = 22;
 
 pub fn is_list(table: u8) -> bool
+    ensures { λ r. ⌜ r ≡ (leb 8 table && leb table 22) ⌝ }
     ensures { λ r. ⌜ (r ≡ true → ListTable table) ⌝ }
 {
     (8 <= table) & (table <= LAST_LIST)

@@ -53,7 +53,7 @@ still : (c : tie.Joined2 Inv-loop μ-loop) → Ready (c .before .before .before 
 still c =
     let h = here (c .before .before) in
     ⊎-elim
-    (λ w. rw (w .4) (ready-still (c .before .before .before .before .before .before .before .before .before .before .before .before .before .pre) h (c .before .is-list .ensures (w .0 .taken)) (w .2 .ensures) (λ l. omega (arith, w .3 .left))))
+    (λ w. rw (w .4) (ready-still (c .before .before .before .before .before .before .before .before .before .before .before .before .before .pre) h (c .before .is-list .ensures .1 (w .0 .taken)) (w .2 .ensures) (λ l. omega (arith, w .3 .left))))
     (λ w. rw (w .1) h)
     (c .if2 .came)
 
@@ -93,7 +93,7 @@ loop-again c =
     let s = c .before .before .before .before .before .before .before .before .before .before .before .before .before .before .before .before .before .before in
     let v = c .before .before .before .before .before .before .before .before .before .before .before .before .before .before .loop .inv in
     let h = here (c .before .before .before .before .before .before .before) in
-    let l = c .before .before .before .before .before .before .is-list .ensures (c .before .before .before .before .before .if2 .taken) in
+    let l = c .before .before .before .before .before .before .is-list .ensures .1 (c .before .before .before .before .before .if2 .taken) in
     let y = c .before .before .before .past-lists .ensures in (
       v .0,
       (
@@ -150,7 +150,7 @@ check-records-spec =
     (λ c κs. (inside (c .before) .0, (few (c .before), (inside (c .before) .1, c .before .before .before .before .before .loop .inv .1 .0 .after))))
     returns-2
     (λ c κs. search needs)
-    (λ c κs. (inside (c .before .before .before .before .before .before) .0, (few (c .before .before .before .before .before .before), c .before .before .is-list .ensures (c .before .if2 .taken))))
+    (λ c κs. (inside (c .before .before .before .before .before .before) .0, (few (c .before .before .before .before .before .before), c .before .before .is-list .ensures .1 (c .before .if2 .taken))))
     (λ c. search needs)
     (λ c. search needs)
     (λ c. search needs)

@@ -1,10 +1,11 @@
 -- `packing::rules::named_past` meets its contract. Assumes nothing.
 use Prim.Native.Nat.{_-_}
-use mathlib.Core.Path.{refl}
+use mathlib.Core.Path.{refl, _∙_, sym}
 use native.Mathlib.Omega.{arith}
 use borrow.Author.Tests.{not-false}
 use borrow.Author.Needs.{needs}
 use denote.Ref.{now}
+use Rattle.identity.proofs.Short.{names-utf8}
 use Rattle.packing.specs.Runs.{NamedPassed}
 use Rattle.packing.proofs.Tables.{pack-length}
 use Rattle.packing.proofs.Places.{passed-none, passed-next}
@@ -20,8 +21,8 @@ abbrev μ-loop : tie.MeasureT-loop
 again : tie.Need-loop-again Inv-loop μ-loop
 again c =
     let n = c .before in
-    let s = n .before .before .before .before in
-    passed-next (s .before .before .before .before .pre .1) (search needs) (n .before .before .before .loop .inv) (n .before .before .loop-test .taken) (n .before .identity-at .ensures) (n .names-ascii .ensures (not-false _ (c .if2 .left)))
+    let s = n .before .before .before .before .before .before .before .before in
+    passed-next (s .pre .1) (search needs) (n .before .before .before .loop .inv) (n .before .before .loop-test .taken) (n .before .identity-at .ensures) (names-utf8 (now (s .args .batch)) (now (s .args .house)) (n .before .identity-at .result) (sym (n .names-ascii .ensures) ∙ not-false _ (c .if2 .left)))
 
 pub named-past-spec : {M : Type 1} → statement M
 named-past-spec =
