@@ -1,6 +1,6 @@
 // The numbers of a pack, high byte first: W is 4 bytes, D is 8. A byte past the end counts as 0.
 ghost use mathlib.Core.Path.{_≡_};
-ghost use Prim.Native.Nat.{_+_, _*_, _/_, _%_, _<_, _≤_};
+ghost use Prim.Native.Nat.{_+_, _*_, _/_, _%_, _≤_};
 ghost use lib.ListN.{getD, length};
 ghost use Rattle.schema.specs.Number.{number, Number, Words};
 
