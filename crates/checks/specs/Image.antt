@@ -1,8 +1,8 @@
 -- The image of an enclave: what its check looks at, and no more. Assumes nothing.
-use Prim.Native.Nat.{ℕ, _+_, _-_}
+use Prim.Native.Nat.{ℕ, _+_, _-_, _/_, _<_, _≤_}
 use mathlib.Core.Bool.{Bool, true, false}
 use mathlib.Core.List.{List}
-use lib.ListN.{getD}
+use lib.ListN.{getD, length}
 use Rattle.identity.specs.declared.IdentityPlace.{IdentityPlace}
 use Rattle.identity.specs.Text.{identityText}
 use Rattle.range.specs.declared.SliceRange.{SliceRange}
@@ -115,6 +115,14 @@ startOf s t = getD s t 0
 
 abbrev pub rowsOf : List ℕ → ℕ → ℕ
 rowsOf s t = getD s (t + 1) 0 - getD s t 0
+
+-- the starts s rise from table to table
+pub record Rising (s : List ℕ) : Type 0 where
+  pub rises : (t : ℕ) → t < 25 → getD s t 0 ≤ getD s (t + 1) 0
+
+-- the tables that begin at s end inside the pack p
+abbrev pub Within : List ℕ → List ℕ → Type 0
+Within p s = getD s 25 0 ≤ length p / 64
 
 -- the rows of a table as functions of the index, where another row's checks need them
 abbrev pub reactionsAt : List ℕ → List ℕ → ℕ → ReactionPart

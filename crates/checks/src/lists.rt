@@ -4,7 +4,7 @@ ghost use mathlib.Core.List.{[], _∷_};
 ghost use Prim.Native.Nat.{ℕ, _+_, _<_};
 ghost use Rattle.answers.specs.Checks.{first, Decides};
 ghost use Rattle.answers.specs.PassesIf.{isPassed, PassesIf};
-ghost use Rattle.checks.specs.Image.{rowsOf, reactionsAt, levelsAt, lifecyclesAt};
+ghost use Rattle.checks.specs.Image.{rowsOf, reactionsAt, levelsAt, lifecyclesAt, Rising, Within};
 ghost use Rattle.checks.specs.Lists.{entryIndex, levelEqual, levelLess, levelRefChecks, levelOrderChecks, levelChecks, lifecycleChecks, levelsChecks, lifecyclesChecks};
 ghost use Rattle.checks.specs.PassedOver.{entryOf, entryChecks, PassedOver};
 ghost use Rattle.checks.specs.Refs.{refTo};
@@ -63,7 +63,7 @@ pub fn validate_level_ref(
     index: u32,
     entry: LevelReactionImage,
 ) -> Outcome
-    requires { ⌜ Whole (now p) ⌝ }
+    requires { ⌜ Whole (now p) × (Rising (now s) × Within (now p) (now s)) ⌝ }
     ensures { λ r. ⌜ Decides (levelRefChecks (rowsOf (now (s .entry))) (reactionsAt (now (p .entry)) (now (s .entry))) table index entry) r ⌝ }
 {
     let key = entry.reaction;
@@ -71,7 +71,7 @@ pub fn validate_level_ref(
     let Found::Row(n) = found else {
         return found.refused();
     };
-    if parts::reaction_level_at(p, n) == entry.level {
+    if parts::reaction_level_of(p, n) == entry.level {
         return Outcome::Passed;
     }
     Outcome::Refused(Refusal::OwnershipMismatch {
@@ -101,7 +101,7 @@ fn check_level_order(
 
 // Entry k of the range of a table that begins at `start`.
 fn level_entry(p: &[u8], s: &TableStarts, table: u8, start: u32, k: u32) -> LevelReactionImage
-    requires { ⌜ Whole (now p) × (table < 25) ⌝ }
+    requires { ⌜ Whole (now p) × (Rising (now s) × (Within (now p) (now s) × (table < 25))) ⌝ }
     ensures { λ r. ⌜ r ≡ levelsAt (now (p .entry)) (now (s .entry)) table (start + k) ⌝ }
 {
     let t = table as usize;
@@ -116,7 +116,7 @@ fn lifecycle_reaction(
     start: u32,
     k: u32,
 ) -> LevelReactionImage
-    requires { ⌜ Whole (now p) × (table < 25) ⌝ }
+    requires { ⌜ Whole (now p) × (Rising (now s) × (Within (now p) (now s) × (table < 25))) ⌝ }
     ensures { λ r. ⌜ r ≡ lifecyclesAt (now (p .entry)) (now (s .entry)) table (start + k) .reaction ⌝ }
 {
     let t = table as usize;
@@ -124,7 +124,7 @@ fn lifecycle_reaction(
 }
 
 fn lifecycle_action(p: &[u8], s: &TableStarts, table: u8, start: u32, k: u32) -> ActionIndex
-    requires { ⌜ Whole (now p) × (table < 25) ⌝ }
+    requires { ⌜ Whole (now p) × (Rising (now s) × (Within (now p) (now s) × (table < 25))) ⌝ }
     ensures { λ r. ⌜ r ≡ lifecyclesAt (now (p .entry)) (now (s .entry)) table (start + k) .action ⌝ }
 {
     let t = table as usize;
@@ -132,7 +132,7 @@ fn lifecycle_action(p: &[u8], s: &TableStarts, table: u8, start: u32, k: u32) ->
 }
 
 fn check_level(p: &[u8], s: &TableStarts, table: u8, start: u32, k: u32) -> Outcome
-    requires { ⌜ Whole (now p) × (table < 25) ⌝ }
+    requires { ⌜ Whole (now p) × (Rising (now s) × (Within (now p) (now s) × (table < 25))) ⌝ }
     ensures { λ r. ⌜ Decides (levelChecks (rowsOf (now (s .entry))) (reactionsAt (now (p .entry)) (now (s .entry))) (levelsAt (now (p .entry)) (now (s .entry))) table start k) r ⌝ }
 {
     let index = entry_index(start, k);
@@ -148,7 +148,7 @@ fn check_level(p: &[u8], s: &TableStarts, table: u8, start: u32, k: u32) -> Outc
 }
 
 pub fn check_lifecycle(p: &[u8], s: &TableStarts, table: u8, start: u32, k: u32) -> Outcome
-    requires { ⌜ Whole (now p) × (table < 25) ⌝ }
+    requires { ⌜ Whole (now p) × (Rising (now s) × (Within (now p) (now s) × (table < 25))) ⌝ }
     ensures { λ r. ⌜ Decides (lifecycleChecks (rowsOf (now (s .entry))) (reactionsAt (now (p .entry)) (now (s .entry))) (lifecyclesAt (now (p .entry)) (now (s .entry))) table start k) r ⌝ }
 {
     let index = entry_index(start, k);
@@ -171,6 +171,7 @@ pub fn check_lifecycle(p: &[u8], s: &TableStarts, table: u8, start: u32, k: u32)
 
 // An entry's action is there.
 pub fn check_action(s: &TableStarts, table: u8, index: u32, action: ActionIndex) -> Outcome
+    requires { ⌜ Rising (now s) ⌝ }
     ensures { λ r. ⌜ Decides (refTo (rowsOf (now (s .entry))) table index 29 3 (action .0) ∷ []) r ⌝ }
 {
     let found = crate::refs::check_action_ref(s, table, index, field::ACTION, action);
@@ -180,25 +181,22 @@ pub fn check_action(s: &TableStarts, table: u8, index: u32, action: ActionIndex)
     Outcome::Passed
 }
 
-// Whether an entry, read as one number, names a reaction that is there and has the entry's level. A record past the pack is left to the full check, here and below, so that the readers need not test for it again.
+// Whether an entry, read as one number, names a reaction that is there and has the entry's level.
 fn has_level(p: &[u8], s: &TableStarts, pair: u64) -> bool
-    requires { ⌜ Whole (now p) ⌝ }
+    requires { ⌜ Whole (now p) × (Rising (now s) × Within (now p) (now s)) ⌝ }
     ensures { λ r. ⌜ ((t i : ℕ) → PassesIf (levelRefChecks (rowsOf (now (s .entry))) (reactionsAt (now (p .entry)) (now (s .entry))) t i (entryOf pair)) r) ⌝ }
 {
     let reaction = number::low(pair);
     if crate::refs::rows_of(s, ReactionImage::TABLE) <= reaction {
         return false;
     }
-    let n = crate::refs::row_number(s, ReactionImage::TABLE, reaction);
-    if p.len() / 64 <= n {
-        return false;
-    }
-    parts::reaction_level_at(p, n) == number::high(pair)
+    let n = crate::refs::row_of(s, ReactionImage::TABLE, reaction);
+    parts::reaction_level_of(p, n) == number::high(pair)
 }
 
 // A quick test of entry k and of the entry before it, each read as one number. The level is the high half, so entries rise as their numbers do.
 fn level_passes(p: &[u8], s: &TableStarts, k: u32, before: u64, pair: u64) -> bool
-    requires { ⌜ Whole (now p) ⌝ }
+    requires { ⌜ Whole (now p) × (Rising (now s) × Within (now p) (now s)) ⌝ }
     ensures { λ r. ⌜ ((t i : ℕ) → PassesIf (entryChecks (rowsOf (now (s .entry))) (reactionsAt (now (p .entry)) (now (s .entry))) t i k (entryOf before) (entryOf pair)) r) ⌝ }
 {
     if !has_level(p, s, pair) {
@@ -210,9 +208,9 @@ fn level_passes(p: &[u8], s: &TableStarts, k: u32, before: u64, pair: u64) -> bo
     before < pair
 }
 
-// How many of the `len` entries from `start` are seen to pass, from the first on. The number before is kept, so each is read once.
+// How many of the `len` entries from `start` are seen to pass, from the first on. The number before is kept, so each is read once. An entry past the pack is left to the full check, so that the reader need not test for it again.
 fn levels_past(p: &[u8], s: &TableStarts, table: u8, start: u32, len: u32) -> u32
-    requires { ⌜ Whole (now p) × (table < 25) ⌝ }
+    requires { ⌜ Whole (now p) × (Rising (now s) × (Within (now p) (now s) × (table < 25))) ⌝ }
     ensures { λ r. ⌜ PassedOver (levelChecks (rowsOf (now (s .entry))) (reactionsAt (now (p .entry)) (now (s .entry))) (levelsAt (now (p .entry)) (now (s .entry))) table start) len r ⌝ }
 {
     let t = table as usize;
@@ -236,7 +234,7 @@ fn levels_past(p: &[u8], s: &TableStarts, table: u8, start: u32, len: u32) -> u3
 
 // The `len` entries from `start` of a table of reactions by level. Those not seen to pass at once are checked one by one, for the refusal.
 fn check_levels(p: &[u8], s: &TableStarts, table: u8, start: u32, len: u32) -> Outcome
-    requires { ⌜ Whole (now p) × (table < 25) ⌝ }
+    requires { ⌜ Whole (now p) × (Rising (now s) × (Within (now p) (now s) × (table < 25))) ⌝ }
     ensures { λ r. ⌜ Decides (levelsChecks (rowsOf (now (s .entry))) (reactionsAt (now (p .entry)) (now (s .entry))) (levelsAt (now (p .entry)) (now (s .entry))) table start len) r ⌝ }
 {
     let mut k = levels_past(p, s, table, start, len);
@@ -252,7 +250,7 @@ fn check_levels(p: &[u8], s: &TableStarts, table: u8, start: u32, len: u32) -> O
 
 // The same. An empty range, the usual one, is answered at once.
 pub fn validate_levels(p: &[u8], s: &TableStarts, table: u8, start: u32, len: u32) -> Outcome
-    requires { ⌜ Whole (now p) × (table < 25) ⌝ }
+    requires { ⌜ Whole (now p) × (Rising (now s) × (Within (now p) (now s) × (table < 25))) ⌝ }
     ensures { λ r. ⌜ Decides (levelsChecks (rowsOf (now (s .entry))) (reactionsAt (now (p .entry)) (now (s .entry))) (levelsAt (now (p .entry)) (now (s .entry))) table start len) r ⌝ }
 {
     if len == 0 {
@@ -272,7 +270,7 @@ fn is_passed(outcome: Outcome) -> bool
 
 // Whether the `len` entries from `start` pass, for callers that have many ranges: most are seen to pass at once, and the others are checked one by one.
 pub fn levels_pass(p: &[u8], s: &TableStarts, table: u8, start: u32, len: u32) -> bool
-    requires { ⌜ Whole (now p) × (table < 25) ⌝ }
+    requires { ⌜ Whole (now p) × (Rising (now s) × (Within (now p) (now s) × (table < 25))) ⌝ }
     ensures { λ r. ⌜ r ≡ isPassed (first (levelsChecks (rowsOf (now (s .entry))) (reactionsAt (now (p .entry)) (now (s .entry))) (levelsAt (now (p .entry)) (now (s .entry))) table start len)) ⌝ }
 {
     if len == 0 {
@@ -286,7 +284,7 @@ pub fn levels_pass(p: &[u8], s: &TableStarts, table: u8, start: u32, len: u32) -
 
 // How many of the `len` lifecycle reactions from `start` are seen to pass, in the same way: the action is there too.
 fn lifecycles_past(p: &[u8], s: &TableStarts, table: u8, start: u32, len: u32) -> u32
-    requires { ⌜ Whole (now p) × (table < 25) ⌝ }
+    requires { ⌜ Whole (now p) × (Rising (now s) × (Within (now p) (now s) × (table < 25))) ⌝ }
     ensures { λ r. ⌜ PassedOver (lifecycleChecks (rowsOf (now (s .entry))) (reactionsAt (now (p .entry)) (now (s .entry))) (lifecyclesAt (now (p .entry)) (now (s .entry))) table start) len r ⌝ }
 {
     let t = table as usize;
@@ -314,7 +312,7 @@ fn lifecycles_past(p: &[u8], s: &TableStarts, table: u8, start: u32, len: u32) -
 
 // The `len` entries from `start` of a table of lifecycle reactions, likewise.
 fn check_lifecycles(p: &[u8], s: &TableStarts, table: u8, start: u32, len: u32) -> Outcome
-    requires { ⌜ Whole (now p) × (table < 25) ⌝ }
+    requires { ⌜ Whole (now p) × (Rising (now s) × (Within (now p) (now s) × (table < 25))) ⌝ }
     ensures { λ r. ⌜ Decides (lifecyclesChecks (rowsOf (now (s .entry))) (reactionsAt (now (p .entry)) (now (s .entry))) (lifecyclesAt (now (p .entry)) (now (s .entry))) table start len) r ⌝ }
 {
     let mut k = lifecycles_past(p, s, table, start, len);
@@ -330,7 +328,7 @@ fn check_lifecycles(p: &[u8], s: &TableStarts, table: u8, start: u32, len: u32) 
 
 // The same. An empty range, the usual one, is answered at once.
 pub fn validate_lifecycle(p: &[u8], s: &TableStarts, table: u8, start: u32, len: u32) -> Outcome
-    requires { ⌜ Whole (now p) × (table < 25) ⌝ }
+    requires { ⌜ Whole (now p) × (Rising (now s) × (Within (now p) (now s) × (table < 25))) ⌝ }
     ensures { λ r. ⌜ Decides (lifecyclesChecks (rowsOf (now (s .entry))) (reactionsAt (now (p .entry)) (now (s .entry))) (lifecyclesAt (now (p .entry)) (now (s .entry))) table start len) r ⌝ }
 {
     if len == 0 {

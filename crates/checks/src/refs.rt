@@ -2,8 +2,9 @@
 ghost use mathlib.Core.Path.{_≡_};
 ghost use mathlib.Core.List.{[], _∷_};
 ghost use Prim.Native.Nat.{_+_, _<_};
+ghost use lib.ListN.{getD};
 ghost use Rattle.answers.specs.Checks.{Decides};
-ghost use Rattle.checks.specs.Image.{startOf, rowsOf};
+ghost use Rattle.checks.specs.Image.{startOf, rowsOf, Rising};
 ghost use Rattle.checks.specs.Refs.{lengthCheck, LookedUp, spanChecks, rangeChecks};
 use crate::Found;
 use answers::Outcome;
@@ -29,16 +30,13 @@ use schema::rows::ScopeImage;
 
 // How many rows a table has.
 pub fn rows_of(s: &TableStarts, table: u8) -> u32
-    requires { ⌜ table < 25 ⌝ }
+    requires { ⌜ Rising (now s) × (table < 25) ⌝ }
     ensures { λ r. ⌜ r ≡ rowsOf (now (s .entry)) table ⌝ }
 {
     let t = table as usize;
     let start = s[t];
     let end = s[t + 1];
-    if start <= end {
-        return end - start;
-    }
-    0
+    end - start
 }
 
 fn sum(a: u32, b: u32) -> usize
@@ -63,9 +61,17 @@ pub fn row_number(s: &TableStarts, table: u8, index: u32) -> usize
     sum(s[t], index)
 }
 
+// The same for a row that the table has: it lies before the end of all tables.
+pub fn row_of(s: &TableStarts, table: u8, index: u32) -> usize
+    requires { ⌜ Rising (now s) × ((table < 25) × (index < rowsOf (now s) table)) ⌝ }
+    ensures { λ r. ⌜ (r ≡ startOf (now (s .entry)) table + index) × (r < getD (now (s .entry)) 25 0) ⌝ }
+{
+    row_number(s, table, index)
+}
+
 // Whether a table fits its key's domain.
 pub fn check_enclave_len(s: &TableStarts, table: u8) -> Outcome
-    requires { ⌜ table < 25 ⌝ }
+    requires { ⌜ Rising (now s) × (table < 25) ⌝ }
     ensures { λ r. ⌜ Decides (lengthCheck (rowsOf (now (s .entry))) table ∷ []) r ⌝ }
 {
     if rows_of(s, table) as u64 <= 0x1_0000_0000 {
@@ -83,7 +89,7 @@ fn check_ref(
     target: u8,
     referenced: u32,
 ) -> Found
-    requires { ⌜ target < 25 ⌝ }
+    requires { ⌜ Rising (now s) × (target < 25) ⌝ }
     ensures { λ r. ⌜ LookedUp (now (s .entry)) table index field target referenced r ⌝ }
 {
     if referenced < rows_of(s, target) {
@@ -105,6 +111,7 @@ pub fn check_reactor_ref(
     field: u8,
     key: ReactorIndex,
 ) -> Found
+    requires { ⌜ Rising (now s) ⌝ }
     ensures { λ r. ⌜ LookedUp (now (s .entry)) table index field 2 (key .0) r ⌝ }
 {
     check_ref(s, table, index, field, ReactorImage::TABLE, key.0)
@@ -117,12 +124,14 @@ pub fn check_action_ref(
     field: u8,
     key: ActionIndex,
 ) -> Found
+    requires { ⌜ Rising (now s) ⌝ }
     ensures { λ r. ⌜ LookedUp (now (s .entry)) table index field 3 (key .0) r ⌝ }
 {
     check_ref(s, table, index, field, ActionImage::TABLE, key.0)
 }
 
 pub fn check_port_ref(s: &TableStarts, table: u8, index: u32, field: u8, key: PortIndex) -> Found
+    requires { ⌜ Rising (now s) ⌝ }
     ensures { λ r. ⌜ LookedUp (now (s .entry)) table index field 4 (key .0) r ⌝ }
 {
     check_ref(s, table, index, field, PortImage::TABLE, key.0)
@@ -135,18 +144,21 @@ pub fn check_reaction_ref(
     field: u8,
     key: ReactionIndex,
 ) -> Found
+    requires { ⌜ Rising (now s) ⌝ }
     ensures { λ r. ⌜ LookedUp (now (s .entry)) table index field 5 (key .0) r ⌝ }
 {
     check_ref(s, table, index, field, ReactionImage::TABLE, key.0)
 }
 
 pub fn check_mode_ref(s: &TableStarts, table: u8, index: u32, field: u8, key: ModeIndex) -> Found
+    requires { ⌜ Rising (now s) ⌝ }
     ensures { λ r. ⌜ LookedUp (now (s .entry)) table index field 6 (key .0) r ⌝ }
 {
     check_ref(s, table, index, field, ModeImage::TABLE, key.0)
 }
 
 pub fn check_scope_ref(s: &TableStarts, table: u8, index: u32, field: u8, key: ScopeIndex) -> Found
+    requires { ⌜ Rising (now s) ⌝ }
     ensures { λ r. ⌜ LookedUp (now (s .entry)) table index field 7 (key .0) r ⌝ }
 {
     check_ref(s, table, index, field, ScopeImage::TABLE, key.0)
@@ -159,6 +171,7 @@ pub fn check_binding_ref(
     field: u8,
     key: BindingSlotIndex,
 ) -> Found
+    requires { ⌜ Rising (now s) ⌝ }
     ensures { λ r. ⌜ LookedUp (now (s .entry)) table index field 24 (key .0) r ⌝ }
 {
     check_ref(s, table, index, field, RequiredBindingImage::TABLE, key.0)
@@ -174,7 +187,7 @@ pub fn check_enclave_span(
     span: IndexSpan,
     previous_end: u64,
 ) -> Outcome
-    requires { ⌜ target < 25 ⌝ }
+    requires { ⌜ Rising (now s) × (target < 25) ⌝ }
     ensures { λ r. ⌜ Decides (spanChecks (rowsOf (now (s .entry))) table index field target (span .start) (span .len) «previous_end») r ⌝ }
 {
     let start = span.start;
@@ -215,7 +228,7 @@ pub fn check_enclave_range(
     range: SliceRange,
     previous_end: u64,
 ) -> Outcome
-    requires { ⌜ target < 25 ⌝ }
+    requires { ⌜ Rising (now s) × (target < 25) ⌝ }
     ensures { λ r. ⌜ Decides (rangeChecks (rowsOf (now (s .entry))) table index field target range «previous_end») r ⌝ }
 {
     check_enclave_span(s, table, index, field, target, range.span(), previous_end)

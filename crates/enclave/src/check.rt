@@ -1,6 +1,6 @@
 // The check of an enclave: packing, then the passes, with the links of its scopes.
 ghost use mathlib.Core.Path.{_≡_};
-ghost use Rattle.checks.specs.Image.{image};
+ghost use Rattle.checks.specs.Image.{image, Rising, Within};
 ghost use Rattle.enclave.specs.Answer.{outcomeAnswer, parentsOutcome, answerNumbers, imageResult, enclaveAnswer};
 ghost use Rattle.schema.specs.Rows.{Whole};
 use crate::EnclaveAnswer;
@@ -36,7 +36,7 @@ pub fn check_image<'a>(
     s: &'a TableStarts,
     n: usize,
 ) -> EnclaveAnswer
-    requires { ⌜ Whole (now p) ⌝ }
+    requires { ⌜ Whole (now p) × (Rising (now s) × Within (now p) (now s)) ⌝ }
     ensures { λ r. ⌜ r ≡ imageResult (image (now (p .entry)) (now (batch .entry)) (now (house .entry)) (now (s .entry)) n) ⌝ }
 {
     let rows = crate::passes::check_rows(p, batch, house, s, n);

@@ -4,7 +4,7 @@ ghost use mathlib.Core.List.{[]};
 ghost use Prim.Native.Nat.{_<_};
 ghost use lib.ListN.{take, drop};
 ghost use Rattle.answers.specs.Checks.{run, Decides};
-ghost use Rattle.checks.specs.Image.{image};
+ghost use Rattle.checks.specs.Image.{image, Rising, Within};
 ghost use Rattle.enclave.specs.Passes.{lengthTable, lengthChecks, rootChecks, enclaveIdChecks, rowPasses, listPasses, checksOf};
 ghost use Rattle.schema.specs.Rows.{Whole};
 use answers::Outcome;
@@ -44,12 +44,14 @@ fn length_table(i: u32) -> u8
 }
 
 fn check_length(s: &TableStarts, i: u32) -> Outcome
+    requires { ⌜ Rising (now s) ⌝ }
     ensures { λ r. ⌜ Decides (lengthChecks (image [] [] [] (now (s .entry)) 0) i) r ⌝ }
 {
     refs::check_enclave_len(s, length_table(i))
 }
 
 fn check_root(s: &TableStarts) -> Outcome
+    requires { ⌜ Rising (now s) ⌝ }
     ensures { λ r. ⌜ Decides (rootChecks (image [] [] [] (now (s .entry)) 0) 0) r ⌝ }
 {
     bindings::check_reactor(
@@ -69,6 +71,7 @@ fn check_enclave_id<'a>(p: &'a [u8], batch: &'a [u8], house: &'a [u8], n: usize)
 }
 
 fn check_lengths(s: &TableStarts) -> Outcome
+    requires { ⌜ Rising (now s) ⌝ }
     ensures { λ r. ⌜ Decides (run (lengthChecks (image [] [] [] (now (s .entry)) 0)) 0 8) r ⌝ }
 {
     let mut i = 0;
@@ -90,7 +93,7 @@ fn check_head<'a>(
     s: &'a TableStarts,
     n: usize,
 ) -> Outcome
-    requires { ⌜ Whole (now p) ⌝ }
+    requires { ⌜ Whole (now p) × (Rising (now s) × Within (now p) (now s)) ⌝ }
     ensures { λ r. ⌜ Decides (checksOf (image (now (p .entry)) (now (batch .entry)) (now (house .entry)) (now (s .entry)) n) (take 3 rowPasses)) r ⌝ }
 {
     let lengths = check_lengths(s);
@@ -112,7 +115,7 @@ fn check_tables<'a>(
     s: &'a TableStarts,
     n: usize,
 ) -> Outcome
-    requires { ⌜ Whole (now p) ⌝ }
+    requires { ⌜ Whole (now p) × (Rising (now s) × Within (now p) (now s)) ⌝ }
     ensures { λ r. ⌜ Decides (checksOf (image (now (p .entry)) (now (batch .entry)) (now (house .entry)) (now (s .entry)) n) (drop 3 rowPasses)) r ⌝ }
 {
     let reactors = reactors::check_reactors(p, s, n);
@@ -142,7 +145,7 @@ pub fn check_rows<'a>(
     s: &'a TableStarts,
     n: usize,
 ) -> Outcome
-    requires { ⌜ Whole (now p) ⌝ }
+    requires { ⌜ Whole (now p) × (Rising (now s) × Within (now p) (now s)) ⌝ }
     ensures { λ r. ⌜ Decides (checksOf (image (now (p .entry)) (now (batch .entry)) (now (house .entry)) (now (s .entry)) n) rowPasses) r ⌝ }
 {
     let head = check_head(p, batch, house, s, n);
@@ -160,7 +163,7 @@ fn check_reaction_lists<'a>(
     s: &'a TableStarts,
     n: usize,
 ) -> Outcome
-    requires { ⌜ Whole (now p) ⌝ }
+    requires { ⌜ Whole (now p) × (Rising (now s) × Within (now p) (now s)) ⌝ }
     ensures { λ r. ⌜ Decides (checksOf (image (now (p .entry)) (now (batch .entry)) (now (house .entry)) (now (s .entry)) n) (take 6 listPasses)) r ⌝ }
 {
     let actions = level_lists::check_triggers_of_actions(p, s);
@@ -194,7 +197,7 @@ fn check_scope_lists<'a>(
     s: &'a TableStarts,
     n: usize,
 ) -> Outcome
-    requires { ⌜ Whole (now p) ⌝ }
+    requires { ⌜ Whole (now p) × (Rising (now s) × Within (now p) (now s)) ⌝ }
     ensures { λ r. ⌜ Decides (checksOf (image (now (p .entry)) (now (batch .entry)) (now (house .entry)) (now (s .entry)) n) (take 5 (drop 6 listPasses))) r ⌝ }
 {
     let enabled = list_tables::check_modes_of_reactions(p, s);
@@ -224,7 +227,7 @@ fn check_entries<'a>(
     s: &'a TableStarts,
     n: usize,
 ) -> Outcome
-    requires { ⌜ Whole (now p) ⌝ }
+    requires { ⌜ Whole (now p) × (Rising (now s) × Within (now p) (now s)) ⌝ }
     ensures { λ r. ⌜ Decides (checksOf (image (now (p .entry)) (now (batch .entry)) (now (house .entry)) (now (s .entry)) n) (take 6 (drop 11 listPasses))) r ⌝ }
 {
     let triggers = level_lists::check_level_entries(p, s, ReactionTrigger::TABLE);
@@ -258,7 +261,7 @@ fn check_tail<'a>(
     s: &'a TableStarts,
     n: usize,
 ) -> Outcome
-    requires { ⌜ Whole (now p) ⌝ }
+    requires { ⌜ Whole (now p) × (Rising (now s) × Within (now p) (now s)) ⌝ }
     ensures { λ r. ⌜ Decides (checksOf (image (now (p .entry)) (now (batch .entry)) (now (house .entry)) (now (s .entry)) n) (drop 17 listPasses)) r ⌝ }
 {
     let reactions = level_lists::check_shutdown_reactions(p, s);
@@ -284,7 +287,7 @@ pub fn check_lists<'a>(
     s: &'a TableStarts,
     n: usize,
 ) -> Outcome
-    requires { ⌜ Whole (now p) ⌝ }
+    requires { ⌜ Whole (now p) × (Rising (now s) × Within (now p) (now s)) ⌝ }
     ensures { λ r. ⌜ Decides (checksOf (image (now (p .entry)) (now (batch .entry)) (now (house .entry)) (now (s .entry)) n) listPasses) r ⌝ }
 {
     let reactions = check_reaction_lists(p, batch, house, s, n);

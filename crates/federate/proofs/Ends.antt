@@ -1,5 +1,5 @@
 -- Where the enclave of a record ends. Assumes nothing.
-use Prim.Native.Nat.{ℕ, zero, suc, _+_, _-_, _*_, _<_, _≤_}
+use Prim.Native.Nat.{ℕ, zero, suc, _+_, _-_, _*_, _/_, _<_, _≤_}
 use mathlib.Core.Bool.{Bool, true, false, cond}
 use mathlib.Core.Path.{_≡_, refl, _∙_, ap, sym}
 use mathlib.Core.List.{List}
@@ -70,9 +70,15 @@ part-is p n {end} e =
     let q : end * 64 - n * 64 ≡ (enclaveEnd p n - n) * 64 = omega arith in
     ap (λ (k : ℕ). take k (drop (n * 64) p)) q
 
--- of whole records
-pub part-whole : (p : List ℕ) (n : ℕ) → n < recordsOf p → Whole (enclavePack p n)
-part-whole p n l =
+-- of whole records, its own at least
+part-length : (p : List ℕ) (n : ℕ) → n < recordsOf p → length (enclavePack p n) ≡ (enclaveEnd p n - n) * 64
+part-length p n l =
     let h = part-inside p l refl in
     let k : (enclaveEnd p n - n) * 64 ≤ length (drop (n * 64) p) = simp length-drop (omega (arith, h .0, h .1)) in
-    rw (length-take-le ((enclaveEnd p n - n) * 64) (drop (n * 64) p) k) (omega arith)
+    length-take-le ((enclaveEnd p n - n) * 64) (drop (n * 64) p) k
+
+pub part-whole : (p : List ℕ) (n : ℕ) → n < recordsOf p → Whole (enclavePack p n)
+part-whole p n l = rw (part-length p n l) (omega arith)
+
+pub part-some : (p : List ℕ) (n : ℕ) → n < recordsOf p → 0 < length (enclavePack p n) / 64
+part-some p n l = let h = end-within p n l .0 in rw (part-length p n l) (omega arith)

@@ -3,7 +3,7 @@ ghost use mathlib.Core.List.{[]};
 ghost use Prim.Native.Nat.{_<_};
 ghost use Rattle.answers.specs.Checks.{run, Decides};
 ghost use Rattle.answers.specs.PassesIf.{PassesIf};
-ghost use Rattle.checks.specs.Image.{image, rowsOf};
+ghost use Rattle.checks.specs.Image.{image, rowsOf, Rising, Within};
 ghost use Rattle.list_checks.specs.ListTables.{actionTriggerChecks, portTriggerChecks, scopeListChecks, levelEntryChecks, lifecycleEntryChecks, shutdownReactionChecks};
 ghost use Rattle.schema.specs.Rows.{Whole};
 use answers::Outcome;
@@ -23,29 +23,26 @@ use schema::rows::ScopeImage;
 
 // The triggers of action i.
 fn check_action_triggers(p: &[u8], s: &TableStarts, i: u32) -> Outcome
-    requires { ⌜ Whole (now p) ⌝ }
+    requires { ⌜ Whole (now p) × (Rising (now s) × (Within (now p) (now s) × (i < rowsOf (now s) 3))) ⌝ }
     ensures { λ r. ⌜ Decides (actionTriggerChecks (image (now (p .entry)) [] [] (now (s .entry)) 0) i) r ⌝ }
 {
-    let range = parts::action_triggers_at(p, refs::row_number(s, ActionImage::TABLE, i));
+    let range = parts::action_triggers_of(p, refs::row_of(s, ActionImage::TABLE, i));
     lists::validate_levels(p, s, ReactionTrigger::TABLE, range.start, range.len)
 }
 
-// The same as a quick test, whose answer stays in a register; a record past the pack is left to the full check.
+// The same as a quick test, whose answer stays in a register.
 fn action_triggers_pass(p: &[u8], s: &TableStarts, i: u32) -> bool
-    requires { ⌜ Whole (now p) ⌝ }
+    requires { ⌜ Whole (now p) × (Rising (now s) × (Within (now p) (now s) × (i < rowsOf (now s) 3))) ⌝ }
     ensures { λ r. ⌜ PassesIf (actionTriggerChecks (image (now (p .entry)) [] [] (now (s .entry)) 0) i) r ⌝ }
 {
-    let n = refs::row_number(s, ActionImage::TABLE, i);
-    if p.len() / 64 <= n {
-        return false;
-    }
-    let range = parts::action_triggers_at(p, n);
+    let n = refs::row_of(s, ActionImage::TABLE, i);
+    let range = parts::action_triggers_of(p, n);
     lists::levels_pass(p, s, ReactionTrigger::TABLE, range.start, range.len)
 }
 
 // The triggers of every action.
 pub fn check_triggers_of_actions(p: &[u8], s: &TableStarts) -> Outcome
-    requires { ⌜ Whole (now p) ⌝ }
+    requires { ⌜ Whole (now p) × (Rising (now s) × Within (now p) (now s)) ⌝ }
     ensures { λ r. ⌜ Decides (run (actionTriggerChecks (image (now (p .entry)) [] [] (now (s .entry)) 0)) 0 (rowsOf (now (s .entry)) 3)) r ⌝ }
 {
     let rows = refs::rows_of(s, ActionImage::TABLE);
@@ -65,29 +62,26 @@ pub fn check_triggers_of_actions(p: &[u8], s: &TableStarts) -> Outcome
 
 // The triggers of port i.
 fn check_port_triggers(p: &[u8], s: &TableStarts, i: u32) -> Outcome
-    requires { ⌜ Whole (now p) ⌝ }
+    requires { ⌜ Whole (now p) × (Rising (now s) × (Within (now p) (now s) × (i < rowsOf (now s) 4))) ⌝ }
     ensures { λ r. ⌜ Decides (portTriggerChecks (image (now (p .entry)) [] [] (now (s .entry)) 0) i) r ⌝ }
 {
-    let range = parts::port_triggers_at(p, refs::row_number(s, PortImage::TABLE, i));
+    let range = parts::port_triggers_of(p, refs::row_of(s, PortImage::TABLE, i));
     lists::validate_levels(p, s, ReactionTrigger::TABLE, range.start, range.len)
 }
 
-// The same as a quick test, whose answer stays in a register; a record past the pack is left to the full check.
+// The same as a quick test, whose answer stays in a register.
 fn port_triggers_pass(p: &[u8], s: &TableStarts, i: u32) -> bool
-    requires { ⌜ Whole (now p) ⌝ }
+    requires { ⌜ Whole (now p) × (Rising (now s) × (Within (now p) (now s) × (i < rowsOf (now s) 4))) ⌝ }
     ensures { λ r. ⌜ PassesIf (portTriggerChecks (image (now (p .entry)) [] [] (now (s .entry)) 0) i) r ⌝ }
 {
-    let n = refs::row_number(s, PortImage::TABLE, i);
-    if p.len() / 64 <= n {
-        return false;
-    }
-    let range = parts::port_triggers_at(p, n);
+    let n = refs::row_of(s, PortImage::TABLE, i);
+    let range = parts::port_triggers_of(p, n);
     lists::levels_pass(p, s, ReactionTrigger::TABLE, range.start, range.len)
 }
 
 // The triggers of every port.
 pub fn check_triggers_of_ports(p: &[u8], s: &TableStarts) -> Outcome
-    requires { ⌜ Whole (now p) ⌝ }
+    requires { ⌜ Whole (now p) × (Rising (now s) × Within (now p) (now s)) ⌝ }
     ensures { λ r. ⌜ Decides (run (portTriggerChecks (image (now (p .entry)) [] [] (now (s .entry)) 0)) 0 (rowsOf (now (s .entry)) 4)) r ⌝ }
 {
     let rows = refs::rows_of(s, PortImage::TABLE);
@@ -107,26 +101,26 @@ pub fn check_triggers_of_ports(p: &[u8], s: &TableStarts) -> Outcome
 
 // The reset, startup and shutdown reactions of scope i.
 fn check_scope_lists(p: &[u8], s: &TableStarts, i: u32) -> Outcome
-    requires { ⌜ Whole (now p) ⌝ }
+    requires { ⌜ Whole (now p) × (Rising (now s) × (Within (now p) (now s) × (i < rowsOf (now s) 7))) ⌝ }
     ensures { λ r. ⌜ Decides (scopeListChecks (image (now (p .entry)) [] [] (now (s .entry)) 0) i) r ⌝ }
 {
-    let n = refs::row_number(s, ScopeImage::TABLE, i);
-    let reset = parts::scope_reset_reactions_at(p, n);
+    let n = refs::row_of(s, ScopeImage::TABLE, i);
+    let reset = parts::scope_reset_reactions_of(p, n);
     if !lists::levels_pass(p, s, ScopeResetReaction::TABLE, reset.start, reset.len) {
         return lists::validate_levels(p, s, ScopeResetReaction::TABLE, reset.start, reset.len);
     }
-    let up = parts::scope_startup_reactions_at(p, n);
+    let up = parts::scope_startup_reactions_of(p, n);
     let a = lists::validate_lifecycle(p, s, ScopeStartupReaction::TABLE, up.start, up.len);
     let Outcome::Passed = a else {
         return a;
     };
-    let down = parts::scope_shutdown_reactions_at(p, n);
+    let down = parts::scope_shutdown_reactions_of(p, n);
     lists::validate_lifecycle(p, s, ScopeShutdownReaction::TABLE, down.start, down.len)
 }
 
 // The lists of every scope.
 pub fn check_lists_of_scopes(p: &[u8], s: &TableStarts) -> Outcome
-    requires { ⌜ Whole (now p) ⌝ }
+    requires { ⌜ Whole (now p) × (Rising (now s) × Within (now p) (now s)) ⌝ }
     ensures { λ r. ⌜ Decides (run (scopeListChecks (image (now (p .entry)) [] [] (now (s .entry)) 0)) 0 (rowsOf (now (s .entry)) 7)) r ⌝ }
 {
     let rows = refs::rows_of(s, ScopeImage::TABLE);
@@ -143,7 +137,7 @@ pub fn check_lists_of_scopes(p: &[u8], s: &TableStarts) -> Outcome
 
 // Entry i of a table of reactions by level.
 fn check_level_entry(p: &[u8], s: &TableStarts, table: u8, i: u32) -> Outcome
-    requires { ⌜ Whole (now p) × (table < 25) ⌝ }
+    requires { ⌜ Whole (now p) × (Rising (now s) × (Within (now p) (now s) × (table < 25))) ⌝ }
     ensures { λ r. ⌜ Decides (levelEntryChecks table (image (now (p .entry)) [] [] (now (s .entry)) 0) i) r ⌝ }
 {
     let entry = read_lists::level_at(p, refs::row_number(s, table, i));
@@ -152,7 +146,7 @@ fn check_level_entry(p: &[u8], s: &TableStarts, table: u8, i: u32) -> Outcome
 
 // The entries of a table, so many.
 fn level_entries(p: &[u8], s: &TableStarts, table: u8, rows: u32) -> Outcome
-    requires { ⌜ Whole (now p) × (table < 25) ⌝ }
+    requires { ⌜ Whole (now p) × (Rising (now s) × (Within (now p) (now s) × (table < 25))) ⌝ }
     ensures { λ r. ⌜ Decides (run (levelEntryChecks table (image (now (p .entry)) [] [] (now (s .entry)) 0)) 0 rows) r ⌝ }
 {
     let mut i = 0;
@@ -168,7 +162,7 @@ fn level_entries(p: &[u8], s: &TableStarts, table: u8, rows: u32) -> Outcome
 
 // Every entry of a table of reactions by level, whether or not some range covers it. An empty table costs its count alone.
 pub fn check_level_entries(p: &[u8], s: &TableStarts, table: u8) -> Outcome
-    requires { ⌜ Whole (now p) × (table < 25) ⌝ }
+    requires { ⌜ Whole (now p) × (Rising (now s) × (Within (now p) (now s) × (table < 25))) ⌝ }
     ensures { λ r. ⌜ Decides (run (levelEntryChecks table (image (now (p .entry)) [] [] (now (s .entry)) 0)) 0 (rowsOf (now (s .entry)) table)) r ⌝ }
 {
     let rows = refs::rows_of(s, table);
@@ -180,7 +174,7 @@ pub fn check_level_entries(p: &[u8], s: &TableStarts, table: u8) -> Outcome
 
 // Entry i of a table of lifecycle reactions.
 fn check_lifecycle_entry(p: &[u8], s: &TableStarts, table: u8, i: u32) -> Outcome
-    requires { ⌜ Whole (now p) × (table < 25) ⌝ }
+    requires { ⌜ Whole (now p) × (Rising (now s) × (Within (now p) (now s) × (table < 25))) ⌝ }
     ensures { λ r. ⌜ Decides (lifecycleEntryChecks table (image (now (p .entry)) [] [] (now (s .entry)) 0) i) r ⌝ }
 {
     let entry = read_lists::lifecycle_at(p, refs::row_number(s, table, i));
@@ -194,7 +188,7 @@ fn check_lifecycle_entry(p: &[u8], s: &TableStarts, table: u8, i: u32) -> Outcom
 
 // The entries of a table, so many.
 fn lifecycle_entries(p: &[u8], s: &TableStarts, table: u8, rows: u32) -> Outcome
-    requires { ⌜ Whole (now p) × (table < 25) ⌝ }
+    requires { ⌜ Whole (now p) × (Rising (now s) × (Within (now p) (now s) × (table < 25))) ⌝ }
     ensures { λ r. ⌜ Decides (run (lifecycleEntryChecks table (image (now (p .entry)) [] [] (now (s .entry)) 0)) 0 rows) r ⌝ }
 {
     let mut i = 0;
@@ -210,7 +204,7 @@ fn lifecycle_entries(p: &[u8], s: &TableStarts, table: u8, rows: u32) -> Outcome
 
 // Every entry of a table of lifecycle reactions, in the same way.
 pub fn check_lifecycle_entries(p: &[u8], s: &TableStarts, table: u8) -> Outcome
-    requires { ⌜ Whole (now p) × (table < 25) ⌝ }
+    requires { ⌜ Whole (now p) × (Rising (now s) × (Within (now p) (now s) × (table < 25))) ⌝ }
     ensures { λ r. ⌜ Decides (run (lifecycleEntryChecks table (image (now (p .entry)) [] [] (now (s .entry)) 0)) 0 (rowsOf (now (s .entry)) table)) r ⌝ }
 {
     let rows = refs::rows_of(s, table);
@@ -222,7 +216,7 @@ pub fn check_lifecycle_entries(p: &[u8], s: &TableStarts, table: u8) -> Outcome
 
 // The shutdown reactions: one list over the whole table.
 pub fn check_shutdown_reactions(p: &[u8], s: &TableStarts) -> Outcome
-    requires { ⌜ Whole (now p) ⌝ }
+    requires { ⌜ Whole (now p) × (Rising (now s) × Within (now p) (now s)) ⌝ }
     ensures { λ r. ⌜ Decides (run (shutdownReactionChecks (image (now (p .entry)) [] [] (now (s .entry)) 0)) 0 (rowsOf (now (s .entry)) 21)) r ⌝ }
 {
     let table = ShutdownReaction::TABLE;

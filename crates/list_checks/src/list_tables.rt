@@ -2,7 +2,7 @@
 ghost use mathlib.Core.List.{[], _∷_};
 ghost use Prim.Native.Nat.{_<_};
 ghost use Rattle.answers.specs.Checks.{run, Decides};
-ghost use Rattle.checks.specs.Image.{image, rowsOf, modesAt};
+ghost use Rattle.checks.specs.Image.{image, rowsOf, modesAt, Rising, Within};
 ghost use Rattle.checks.specs.Refs.{refTo};
 ghost use Rattle.list_checks.specs.ListTables.{indexChecks, startupChecks, enabledModeChecks, enabledModesChecks, indexOrderChecks, shutdownActionChecks, indexesAt};
 ghost use Rattle.list_checks.specs.FirstPast.{firstWord, FirstPast};
@@ -38,6 +38,7 @@ use schema::rows::ScopeImage;
 
 // A port that an entry names is there.
 pub fn check_port(s: &TableStarts, table: u8, index: u32, field: u8, key: PortIndex) -> Outcome
+    requires { ⌜ Rising (now s) ⌝ }
     ensures { λ r. ⌜ Decides (refTo (rowsOf (now (s .entry))) table index field 4 (key .0) ∷ []) r ⌝ }
 {
     let found = refs::check_port_ref(s, table, index, field, key);
@@ -49,6 +50,7 @@ pub fn check_port(s: &TableStarts, table: u8, index: u32, field: u8, key: PortIn
 
 // A mode that an entry names is there.
 fn check_mode(s: &TableStarts, table: u8, index: u32, key: ModeIndex) -> Outcome
+    requires { ⌜ Rising (now s) ⌝ }
     ensures { λ r. ⌜ Decides (refTo (rowsOf (now (s .entry))) table index 20 6 (key .0) ∷ []) r ⌝ }
 {
     let found = refs::check_mode_ref(s, table, index, field::MODE, key);
@@ -60,14 +62,14 @@ fn check_mode(s: &TableStarts, table: u8, index: u32, key: ModeIndex) -> Outcome
 
 // The first entry of `table` whose index, its first W, is past the table `target`; the table's length where there is none.
 fn first_past(p: &[u8], s: &TableStarts, table: u8, target: u8) -> u32
-    requires { ⌜ Whole (now p) × ((table < 25) × (target < 25)) ⌝ }
+    requires { ⌜ Rising (now s) × (Within (now p) (now s) × ((table < 25) × (target < 25))) ⌝ }
     ensures { λ r. ⌜ FirstPast (firstWord (now (p .entry)) (now (s .entry)) table) (rowsOf (now (s .entry)) target) (rowsOf (now (s .entry)) table) r ⌝ }
 {
     let rows = refs::rows_of(s, table);
     let bound = refs::rows_of(s, target);
     let mut i = 0;
     while i < rows {
-        if bound <= parts::word_at(p, refs::row_number(s, table, i), 4) {
+        if bound <= read::word_of(p, refs::row_of(s, table, i), 4) {
             return i;
         }
         i += 1;
@@ -77,7 +79,7 @@ fn first_past(p: &[u8], s: &TableStarts, table: u8, target: u8) -> u32
 
 // Each table's entries are looked through at once; the one that is refused is looked up as itself.
 fn check_use_port(p: &[u8], s: &TableStarts, i: u32) -> Outcome
-    requires { ⌜ Whole (now p) ⌝ }
+    requires { ⌜ Whole (now p) × (Rising (now s) × Within (now p) (now s)) ⌝ }
     ensures { λ r. ⌜ Decides (indexChecks 9 30 4 (image (now (p .entry)) [] [] (now (s .entry)) 0) i) r ⌝ }
 {
     let n = refs::row_number(s, ReactionUsePort::TABLE, i);
@@ -86,7 +88,7 @@ fn check_use_port(p: &[u8], s: &TableStarts, i: u32) -> Outcome
 }
 
 pub fn check_use_ports(p: &[u8], s: &TableStarts) -> Outcome
-    requires { ⌜ Whole (now p) ⌝ }
+    requires { ⌜ Whole (now p) × (Rising (now s) × Within (now p) (now s)) ⌝ }
     ensures { λ r. ⌜ Decides (run (indexChecks 9 30 4 (image (now (p .entry)) [] [] (now (s .entry)) 0)) 0 (rowsOf (now (s .entry)) 9)) r ⌝ }
 {
     let i = first_past(p, s, ReactionUsePort::TABLE, PortImage::TABLE);
@@ -97,7 +99,7 @@ pub fn check_use_ports(p: &[u8], s: &TableStarts) -> Outcome
 }
 
 fn check_effect_port(p: &[u8], s: &TableStarts, i: u32) -> Outcome
-    requires { ⌜ Whole (now p) ⌝ }
+    requires { ⌜ Whole (now p) × (Rising (now s) × Within (now p) (now s)) ⌝ }
     ensures { λ r. ⌜ Decides (indexChecks 10 30 4 (image (now (p .entry)) [] [] (now (s .entry)) 0) i) r ⌝ }
 {
     let n = refs::row_number(s, ReactionEffectPort::TABLE, i);
@@ -106,7 +108,7 @@ fn check_effect_port(p: &[u8], s: &TableStarts, i: u32) -> Outcome
 }
 
 pub fn check_effect_ports(p: &[u8], s: &TableStarts) -> Outcome
-    requires { ⌜ Whole (now p) ⌝ }
+    requires { ⌜ Whole (now p) × (Rising (now s) × Within (now p) (now s)) ⌝ }
     ensures { λ r. ⌜ Decides (run (indexChecks 10 30 4 (image (now (p .entry)) [] [] (now (s .entry)) 0)) 0 (rowsOf (now (s .entry)) 10)) r ⌝ }
 {
     let i = first_past(p, s, ReactionEffectPort::TABLE, PortImage::TABLE);
@@ -117,7 +119,7 @@ pub fn check_effect_ports(p: &[u8], s: &TableStarts) -> Outcome
 }
 
 fn check_reaction_action(p: &[u8], s: &TableStarts, i: u32) -> Outcome
-    requires { ⌜ Whole (now p) ⌝ }
+    requires { ⌜ Whole (now p) × (Rising (now s) × Within (now p) (now s)) ⌝ }
     ensures { λ r. ⌜ Decides (indexChecks 11 29 3 (image (now (p .entry)) [] [] (now (s .entry)) 0) i) r ⌝ }
 {
     let n = refs::row_number(s, ReactionAction::TABLE, i);
@@ -126,7 +128,7 @@ fn check_reaction_action(p: &[u8], s: &TableStarts, i: u32) -> Outcome
 }
 
 pub fn check_reaction_actions(p: &[u8], s: &TableStarts) -> Outcome
-    requires { ⌜ Whole (now p) ⌝ }
+    requires { ⌜ Whole (now p) × (Rising (now s) × Within (now p) (now s)) ⌝ }
     ensures { λ r. ⌜ Decides (run (indexChecks 11 29 3 (image (now (p .entry)) [] [] (now (s .entry)) 0)) 0 (rowsOf (now (s .entry)) 11)) r ⌝ }
 {
     let i = first_past(p, s, ReactionAction::TABLE, ActionImage::TABLE);
@@ -137,7 +139,7 @@ pub fn check_reaction_actions(p: &[u8], s: &TableStarts) -> Outcome
 }
 
 fn check_reaction_mode(p: &[u8], s: &TableStarts, i: u32) -> Outcome
-    requires { ⌜ Whole (now p) ⌝ }
+    requires { ⌜ Whole (now p) × (Rising (now s) × Within (now p) (now s)) ⌝ }
     ensures { λ r. ⌜ Decides (indexChecks 12 20 6 (image (now (p .entry)) [] [] (now (s .entry)) 0) i) r ⌝ }
 {
     let n = refs::row_number(s, ReactionMode::TABLE, i);
@@ -146,7 +148,7 @@ fn check_reaction_mode(p: &[u8], s: &TableStarts, i: u32) -> Outcome
 }
 
 pub fn check_reaction_modes(p: &[u8], s: &TableStarts) -> Outcome
-    requires { ⌜ Whole (now p) ⌝ }
+    requires { ⌜ Whole (now p) × (Rising (now s) × Within (now p) (now s)) ⌝ }
     ensures { λ r. ⌜ Decides (run (indexChecks 12 20 6 (image (now (p .entry)) [] [] (now (s .entry)) 0)) 0 (rowsOf (now (s .entry)) 12)) r ⌝ }
 {
     let i = first_past(p, s, ReactionMode::TABLE, ModeImage::TABLE);
@@ -157,7 +159,7 @@ pub fn check_reaction_modes(p: &[u8], s: &TableStarts) -> Outcome
 }
 
 fn check_descendant(p: &[u8], s: &TableStarts, i: u32) -> Outcome
-    requires { ⌜ Whole (now p) ⌝ }
+    requires { ⌜ Whole (now p) × (Rising (now s) × Within (now p) (now s)) ⌝ }
     ensures { λ r. ⌜ Decides (indexChecks 13 6 7 (image (now (p .entry)) [] [] (now (s .entry)) 0) i) r ⌝ }
 {
     let n = refs::row_number(s, ScopeDescendant::TABLE, i);
@@ -166,7 +168,7 @@ fn check_descendant(p: &[u8], s: &TableStarts, i: u32) -> Outcome
 }
 
 pub fn check_descendants(p: &[u8], s: &TableStarts) -> Outcome
-    requires { ⌜ Whole (now p) ⌝ }
+    requires { ⌜ Whole (now p) × (Rising (now s) × Within (now p) (now s)) ⌝ }
     ensures { λ r. ⌜ Decides (run (indexChecks 13 6 7 (image (now (p .entry)) [] [] (now (s .entry)) 0)) 0 (rowsOf (now (s .entry)) 13)) r ⌝ }
 {
     let i = first_past(p, s, ScopeDescendant::TABLE, ScopeImage::TABLE);
@@ -177,7 +179,7 @@ pub fn check_descendants(p: &[u8], s: &TableStarts) -> Outcome
 }
 
 fn check_logical_action(p: &[u8], s: &TableStarts, i: u32) -> Outcome
-    requires { ⌜ Whole (now p) ⌝ }
+    requires { ⌜ Whole (now p) × (Rising (now s) × Within (now p) (now s)) ⌝ }
     ensures { λ r. ⌜ Decides (indexChecks 14 29 3 (image (now (p .entry)) [] [] (now (s .entry)) 0) i) r ⌝ }
 {
     let n = refs::row_number(s, ScopeLogicalAction::TABLE, i);
@@ -186,7 +188,7 @@ fn check_logical_action(p: &[u8], s: &TableStarts, i: u32) -> Outcome
 }
 
 pub fn check_logical_actions(p: &[u8], s: &TableStarts) -> Outcome
-    requires { ⌜ Whole (now p) ⌝ }
+    requires { ⌜ Whole (now p) × (Rising (now s) × Within (now p) (now s)) ⌝ }
     ensures { λ r. ⌜ Decides (run (indexChecks 14 29 3 (image (now (p .entry)) [] [] (now (s .entry)) 0)) 0 (rowsOf (now (s .entry)) 14)) r ⌝ }
 {
     let i = first_past(p, s, ScopeLogicalAction::TABLE, ActionImage::TABLE);
@@ -197,7 +199,7 @@ pub fn check_logical_actions(p: &[u8], s: &TableStarts) -> Outcome
 }
 
 fn check_timer_startup(p: &[u8], s: &TableStarts, i: u32) -> Outcome
-    requires { ⌜ Whole (now p) ⌝ }
+    requires { ⌜ Whole (now p) × (Rising (now s) × Within (now p) (now s)) ⌝ }
     ensures { λ r. ⌜ Decides (startupChecks 15 (image (now (p .entry)) [] [] (now (s .entry)) 0) i) r ⌝ }
 {
     let n = refs::row_number(s, ScopeTimerStartup::TABLE, i);
@@ -207,7 +209,7 @@ fn check_timer_startup(p: &[u8], s: &TableStarts, i: u32) -> Outcome
 }
 
 pub fn check_timer_startups(p: &[u8], s: &TableStarts) -> Outcome
-    requires { ⌜ Whole (now p) ⌝ }
+    requires { ⌜ Whole (now p) × (Rising (now s) × Within (now p) (now s)) ⌝ }
     ensures { λ r. ⌜ Decides (run (startupChecks 15 (image (now (p .entry)) [] [] (now (s .entry)) 0)) 0 (rowsOf (now (s .entry)) 15)) r ⌝ }
 {
     let i = first_past(p, s, ScopeTimerStartup::TABLE, ActionImage::TABLE);
@@ -218,7 +220,7 @@ pub fn check_timer_startups(p: &[u8], s: &TableStarts) -> Outcome
 }
 
 fn check_startup_action(p: &[u8], s: &TableStarts, i: u32) -> Outcome
-    requires { ⌜ Whole (now p) ⌝ }
+    requires { ⌜ Whole (now p) × (Rising (now s) × Within (now p) (now s)) ⌝ }
     ensures { λ r. ⌜ Decides (startupChecks 19 (image (now (p .entry)) [] [] (now (s .entry)) 0) i) r ⌝ }
 {
     let n = refs::row_number(s, StartupAction::TABLE, i);
@@ -228,7 +230,7 @@ fn check_startup_action(p: &[u8], s: &TableStarts, i: u32) -> Outcome
 }
 
 pub fn check_startup_actions(p: &[u8], s: &TableStarts) -> Outcome
-    requires { ⌜ Whole (now p) ⌝ }
+    requires { ⌜ Whole (now p) × (Rising (now s) × Within (now p) (now s)) ⌝ }
     ensures { λ r. ⌜ Decides (run (startupChecks 19 (image (now (p .entry)) [] [] (now (s .entry)) 0)) 0 (rowsOf (now (s .entry)) 19)) r ⌝ }
 {
     let i = first_past(p, s, StartupAction::TABLE, ActionImage::TABLE);
@@ -239,7 +241,7 @@ pub fn check_startup_actions(p: &[u8], s: &TableStarts) -> Outcome
 }
 
 fn check_timer_startup_action(p: &[u8], s: &TableStarts, i: u32) -> Outcome
-    requires { ⌜ Whole (now p) ⌝ }
+    requires { ⌜ Whole (now p) × (Rising (now s) × Within (now p) (now s)) ⌝ }
     ensures { λ r. ⌜ Decides (startupChecks 20 (image (now (p .entry)) [] [] (now (s .entry)) 0) i) r ⌝ }
 {
     let n = refs::row_number(s, TimerStartupAction::TABLE, i);
@@ -249,7 +251,7 @@ fn check_timer_startup_action(p: &[u8], s: &TableStarts, i: u32) -> Outcome
 }
 
 pub fn check_timer_startup_actions(p: &[u8], s: &TableStarts) -> Outcome
-    requires { ⌜ Whole (now p) ⌝ }
+    requires { ⌜ Whole (now p) × (Rising (now s) × Within (now p) (now s)) ⌝ }
     ensures { λ r. ⌜ Decides (run (startupChecks 20 (image (now (p .entry)) [] [] (now (s .entry)) 0)) 0 (rowsOf (now (s .entry)) 20)) r ⌝ }
 {
     let i = first_past(p, s, TimerStartupAction::TABLE, ActionImage::TABLE);
@@ -268,7 +270,7 @@ fn check_enabled_mode(
     start: u32,
     k: u32,
 ) -> Outcome
-    requires { ⌜ Whole (now p) ⌝ }
+    requires { ⌜ Whole (now p) × (Rising (now s) × Within (now p) (now s)) ⌝ }
     ensures { λ r. ⌜ Decides (enabledModeChecks (rowsOf (now (s .entry))) (modesAt (now (p .entry)) (now (s .entry))) (indexesAt (now (p .entry)) (now (s .entry))) i (reactor .0) start k) r ⌝ }
 {
     let index = lists::entry_index(start, k);
@@ -292,12 +294,12 @@ fn check_enabled_mode(
 
 // The enabled modes of reaction i.
 fn check_enabled_modes(p: &[u8], s: &TableStarts, i: u32) -> Outcome
-    requires { ⌜ Whole (now p) ⌝ }
+    requires { ⌜ Whole (now p) × (Rising (now s) × (Within (now p) (now s) × (i < rowsOf (now s) 5))) ⌝ }
     ensures { λ r. ⌜ Decides (enabledModesChecks (image (now (p .entry)) [] [] (now (s .entry)) 0) i) r ⌝ }
 {
-    let n = refs::row_number(s, ReactionImage::TABLE, i);
-    let reactor = parts::reaction_reactor_at(p, n);
-    let range = parts::reaction_enabled_modes_at(p, n);
+    let n = refs::row_of(s, ReactionImage::TABLE, i);
+    let reactor = parts::reaction_reactor_of(p, n);
+    let range = parts::reaction_enabled_modes_of(p, n);
     let start = range.start;
     let len = range.len;
     let mut k = 0;
@@ -313,7 +315,7 @@ fn check_enabled_modes(p: &[u8], s: &TableStarts, i: u32) -> Outcome
 
 // The enabled modes of every reaction.
 pub fn check_modes_of_reactions(p: &[u8], s: &TableStarts) -> Outcome
-    requires { ⌜ Whole (now p) ⌝ }
+    requires { ⌜ Whole (now p) × (Rising (now s) × Within (now p) (now s)) ⌝ }
     ensures { λ r. ⌜ Decides (run (enabledModesChecks (image (now (p .entry)) [] [] (now (s .entry)) 0)) 0 (rowsOf (now (s .entry)) 5)) r ⌝ }
 {
     let rows = refs::rows_of(s, ReactionImage::TABLE);
@@ -342,7 +344,7 @@ fn check_index_order(table: u8, index: u32, key: u32, before: u32) -> Outcome
 
 // Entry i of the shutdown actions, against the one before.
 fn check_shutdown_action(p: &[u8], s: &TableStarts, i: u32) -> Outcome
-    requires { ⌜ Whole (now p) ⌝ }
+    requires { ⌜ Whole (now p) × (Rising (now s) × Within (now p) (now s)) ⌝ }
     ensures { λ r. ⌜ Decides (shutdownActionChecks (image (now (p .entry)) [] [] (now (s .entry)) 0) i) r ⌝ }
 {
     let table = ShutdownAction::TABLE;
@@ -362,7 +364,7 @@ fn check_shutdown_action(p: &[u8], s: &TableStarts, i: u32) -> Outcome
 
 // Every shutdown action.
 pub fn check_shutdown_actions(p: &[u8], s: &TableStarts) -> Outcome
-    requires { ⌜ Whole (now p) ⌝ }
+    requires { ⌜ Whole (now p) × (Rising (now s) × Within (now p) (now s)) ⌝ }
     ensures { λ r. ⌜ Decides (run (shutdownActionChecks (image (now (p .entry)) [] [] (now (s .entry)) 0)) 0 (rowsOf (now (s .entry)) 22)) r ⌝ }
 {
     let rows = refs::rows_of(s, ShutdownAction::TABLE);

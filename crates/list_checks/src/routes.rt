@@ -3,8 +3,8 @@ ghost use mathlib.Core.Path.{_≡_};
 ghost use Rattle.identity.specs.Text.{identityText};
 ghost use Rattle.answers.specs.Checks.{run, Decides};
 ghost use Rattle.answers.specs.PassesIf.{PassesIf};
-ghost use Rattle.checks.specs.Image.{image, rowsOf};
-ghost use Prim.Native.Nat.{_-_};
+ghost use Rattle.checks.specs.Image.{image, rowsOf, Rising, Within};
+ghost use Prim.Native.Nat.{_-_, _<_};
 ghost use Rattle.checks.specs.Lists.{afterFirst};
 ghost use Rattle.checks.specs.PassedOver.{PassedOver};
 ghost use Rattle.list_checks.specs.Routes.{directionNumber, sameBoundaryChecks, routeOrderChecks, routesAt, routeChecks, bindingIdChecks};
@@ -90,7 +90,7 @@ fn check_route_after<'a>(
     i: u32,
     route: RouteImage,
 ) -> Outcome
-    requires { ⌜ Whole (now p) ⌝ }
+    requires { ⌜ Whole (now p) × (Rising (now s) × Within (now p) (now s)) ⌝ }
     ensures { λ r. ⌜ Decides (afterFirst i (routeOrderChecks (identityText (now (batch .entry)) (now (house .entry))) i (route .boundary) (route .direction) (routesAt (now (p .entry)) (now (s .entry)) (i - 1) .boundary) (routesAt (now (p .entry)) (now (s .entry)) (i - 1) .direction))) r ⌝ }
 {
     if i == 0 {
@@ -108,7 +108,7 @@ fn check_route<'a>(
     s: &'a TableStarts,
     i: u32,
 ) -> Outcome
-    requires { ⌜ Whole (now p) ⌝ }
+    requires { ⌜ Whole (now p) × (Rising (now s) × Within (now p) (now s)) ⌝ }
     ensures { λ r. ⌜ Decides (routeChecks (image (now (p .entry)) (now (batch .entry)) (now (house .entry)) (now (s .entry)) 0) i) r ⌝ }
 {
     let route = read::route_at(p, refs::row_number(s, RouteImage::TABLE, i));
@@ -123,7 +123,7 @@ fn check_route<'a>(
     crate::list_tables::check_port(s, RouteImage::TABLE, i, field::LOCAL_PORT, route.local_port)
 }
 
-// A quick test of a route: its boundary is valid and above the one before, and its port is there. A record past the pack is left to the full check.
+// A quick test of a route: its boundary is valid and above the one before, and its port is there.
 fn route_passes<'a>(
     p: &'a [u8],
     batch: &'a [u8],
@@ -131,26 +131,23 @@ fn route_passes<'a>(
     s: &'a TableStarts,
     i: u32,
 ) -> bool
-    requires { ⌜ Whole (now p) ⌝ }
+    requires { ⌜ Rising (now s) × (Within (now p) (now s) × (i < rowsOf (now s) 23)) ⌝ }
     ensures { λ r. ⌜ PassesIf (routeChecks (image (now (p .entry)) (now (batch .entry)) (now (house .entry)) (now (s .entry)) 0) i) r ⌝ }
 {
-    let n = refs::row_number(s, RouteImage::TABLE, i);
-    if p.len() / 64 <= n {
-        return false;
-    }
-    let id = parts::route_boundary_at(p, n);
+    let n = refs::row_of(s, RouteImage::TABLE, i);
+    let id = parts::route_boundary_of(p, n);
     if !identity::scan::valid_id(identity::place::identity_text(batch, house, id)) {
         return false;
     }
-    let port = parts::route_port_at(p, n);
+    let port = parts::route_port_of(p, n);
     if refs::rows_of(s, PortImage::TABLE) <= port.0 {
         return false;
     }
     if i == 0 {
         return true;
     }
-    let m = refs::row_number(s, RouteImage::TABLE, i - 1);
-    let before = parts::route_boundary_at(p, m);
+    let m = refs::row_of(s, RouteImage::TABLE, i - 1);
+    let before = parts::route_boundary_of(p, m);
     identity::compare::above(batch, house, id, before)
 }
 
@@ -161,7 +158,7 @@ pub fn check_routes<'a>(
     house: &'a [u8],
     s: &'a TableStarts,
 ) -> Outcome
-    requires { ⌜ Whole (now p) ⌝ }
+    requires { ⌜ Whole (now p) × (Rising (now s) × Within (now p) (now s)) ⌝ }
     ensures { λ r. ⌜ Decides (run (routeChecks (image (now (p .entry)) (now (batch .entry)) (now (house .entry)) (now (s .entry)) 0)) 0 (rowsOf (now (s .entry)) 23)) r ⌝ }
 {
     let rows = refs::rows_of(s, RouteImage::TABLE);
@@ -187,7 +184,7 @@ fn check_binding_id<'a>(
     s: &'a TableStarts,
     i: u32,
 ) -> Outcome
-    requires { ⌜ Whole (now p) ⌝ }
+    requires { ⌜ Whole (now p) × (Rising (now s) × Within (now p) (now s)) ⌝ }
     ensures { λ r. ⌜ Decides (bindingIdChecks (image (now (p .entry)) (now (batch .entry)) (now (house .entry)) (now (s .entry)) 0) i) r ⌝ }
 {
     let table = RequiredBindingImage::TABLE;
@@ -204,7 +201,7 @@ fn check_binding_id<'a>(
     identities::validate_id_order(batch, house, kind::BINDING, i, id, before.id)
 }
 
-// How many of the first `rows` bindings are seen to pass, from the first on: each identity is valid and above the one before, whose text is kept. A record past the pack is left to the full check.
+// How many of the first `rows` bindings are seen to pass, from the first on: each identity is valid and above the one before, whose text is kept.
 fn bindings_past<'a>(
     p: &'a [u8],
     batch: &'a [u8],
@@ -212,17 +209,14 @@ fn bindings_past<'a>(
     s: &'a TableStarts,
     rows: u32,
 ) -> u32
-    requires { ⌜ Whole (now p) ⌝ }
+    requires { ⌜ Rising (now s) × (Within (now p) (now s) × (rows ≡ rowsOf (now s) 24)) ⌝ }
     ensures { λ r. ⌜ PassedOver (bindingIdChecks (image (now (p .entry)) (now (batch .entry)) (now (house .entry)) (now (s .entry)) 0)) rows r ⌝ }
 {
     let mut i: u32 = 0;
     let mut before: &'a [u8] = &batch[..0];
     while i < rows {
-        let n = refs::row_number(s, RequiredBindingImage::TABLE, i);
-        if p.len() / 64 <= n {
-            return i;
-        }
-        let text = identity::place::identity_text(batch, house, parts::binding_id_at(p, n));
+        let n = refs::row_of(s, RequiredBindingImage::TABLE, i);
+        let text = identity::place::identity_text(batch, house, parts::binding_id_of(p, n));
         if !identity::scan::valid_id(text) {
             return i;
         }
@@ -242,7 +236,7 @@ pub fn check_binding_ids<'a>(
     house: &'a [u8],
     s: &'a TableStarts,
 ) -> Outcome
-    requires { ⌜ Whole (now p) ⌝ }
+    requires { ⌜ Whole (now p) × (Rising (now s) × Within (now p) (now s)) ⌝ }
     ensures { λ r. ⌜ Decides (run (bindingIdChecks (image (now (p .entry)) (now (batch .entry)) (now (house .entry)) (now (s .entry)) 0)) 0 (rowsOf (now (s .entry)) 24)) r ⌝ }
 {
     let rows = refs::rows_of(s, RequiredBindingImage::TABLE);

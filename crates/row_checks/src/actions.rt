@@ -1,9 +1,9 @@
 // The checks of a row of actions.
 ghost use mathlib.Core.Path.{_≡_};
-ghost use Prim.Native.Nat.{_+_};
+ghost use Prim.Native.Nat.{_+_, _<_};
 ghost use mathlib.Core.List.{[]};
 ghost use Rattle.answers.specs.Checks.{Decides, run};
-ghost use Rattle.checks.specs.Image.{image, startOf, rowsOf, bindingsAt, isStandard, actionPart};
+ghost use Rattle.checks.specs.Image.{image, startOf, rowsOf, bindingsAt, isStandard, actionPart, Rising, Within};
 ghost use Rattle.checks.specs.Refs.{endBefore, rangeEnd};
 ghost use Rattle.schema.specs.Rows.{Whole, enclaveAt, actionAt};
 ghost use Rattle.row_checks.specs.Reactors.{slotChecks};
@@ -60,7 +60,7 @@ fn check_action_binding(
     timing: ActionTiming,
     binding: MaybeBinding,
 ) -> Outcome
-    requires { ⌜ Whole (now p) ⌝ }
+    requires { ⌜ Whole (now p) × (Rising (now s) × Within (now p) (now s)) ⌝ }
     ensures { λ r. ⌜ Decides (actionBindingChecks (rowsOf (now (s .entry))) (bindingsAt (now (p .entry)) (now (s .entry))) i (isStandard timing) binding) r ⌝ }
 {
     let standard = is_standard(timing);
@@ -86,14 +86,14 @@ fn check_action_binding(
 
 // Where the triggers of the row before end; 0 before the first row.
 fn triggers_end_before(p: &[u8], s: &TableStarts, i: u32) -> u64
-    requires { ⌜ Whole (now p) ⌝ }
+    requires { ⌜ Rising (now s) × (Within (now p) (now s) × (i < rowsOf (now s) 3)) ⌝ }
     ensures { λ r. ⌜ r ≡ endBefore (λ j. rangeEnd (actionAt (now (p .entry)) (startOf (now (s .entry)) 3 + j) .triggers)) i ⌝ }
 {
     if i == 0 {
         return 0;
     }
-    let n = refs::row_number(s, ActionImage::TABLE, i - 1);
-    parts::action_triggers_at(p, n).span().saturating_end()
+    let n = refs::row_of(s, ActionImage::TABLE, i - 1);
+    parts::action_triggers_of(p, n).span().saturating_end()
 }
 
 fn check_action_row(
@@ -104,7 +104,7 @@ fn check_action_row(
     row: ActionImage,
     previous: u64,
 ) -> Outcome
-    requires { ⌜ Whole (now p) ⌝ }
+    requires { ⌜ Whole (now p) × (Rising (now s) × Within (now p) (now s)) ⌝ }
     ensures { λ r. ⌜ Decides (actionRow (image (now (p .entry)) [] [] (now (s .entry)) n) i (actionPart row) previous) r ⌝ }
 {
     let scope = crate::bindings::check_scope(s, ActionImage::TABLE, i, field::SCOPE, row.scope);
@@ -134,7 +134,7 @@ fn check_action_row(
 
 // Row i of the actions, in the enclave of record n.
 fn check_action(p: &[u8], s: &TableStarts, n: usize, i: u32) -> Outcome
-    requires { ⌜ Whole (now p) ⌝ }
+    requires { ⌜ Whole (now p) × (Rising (now s) × (Within (now p) (now s) × (i < rowsOf (now s) 3))) ⌝ }
     ensures { λ r. ⌜ Decides (actionChecks (image (now (p .entry)) [] [] (now (s .entry)) n) i) r ⌝ }
 {
     let row = read::action_at(p, refs::row_number(s, ActionImage::TABLE, i));
@@ -143,7 +143,7 @@ fn check_action(p: &[u8], s: &TableStarts, n: usize, i: u32) -> Outcome
 
 // Every row of the actions, in the enclave of record n.
 pub fn check_actions(p: &[u8], s: &TableStarts, n: usize) -> Outcome
-    requires { ⌜ Whole (now p) ⌝ }
+    requires { ⌜ Whole (now p) × (Rising (now s) × Within (now p) (now s)) ⌝ }
     ensures { λ r. ⌜ Decides (run (actionChecks (image (now (p .entry)) [] [] (now (s .entry)) n)) 0 (rowsOf (now (s .entry)) 3)) r ⌝ }
 {
     let rows = refs::rows_of(s, ActionImage::TABLE);

@@ -2,7 +2,7 @@
 ghost use mathlib.Core.Path.{_≡_};
 ghost use mathlib.Core.List.{[], _∷_};
 ghost use Rattle.answers.specs.Checks.{Decides};
-ghost use Rattle.checks.specs.Image.{rowsOf, bindingsAt};
+ghost use Rattle.checks.specs.Image.{rowsOf, bindingsAt, Rising, Within};
 ghost use Rattle.checks.specs.Refs.{refTo};
 ghost use Rattle.row_checks.specs.Bindings.{kindNumber, sameKind, bindingChecks};
 ghost use Rattle.schema.specs.Rows.{Whole};
@@ -44,14 +44,14 @@ pub fn check_binding(
     kind: BindingKind,
     key: BindingSlotIndex,
 ) -> Outcome
-    requires { ⌜ Whole (now p) ⌝ }
+    requires { ⌜ Whole (now p) × (Rising (now s) × Within (now p) (now s)) ⌝ }
     ensures { λ r. ⌜ Decides (bindingChecks (rowsOf (now (s .entry))) (bindingsAt (now (p .entry)) (now (s .entry))) table index field kind (key .0)) r ⌝ }
 {
     let found = refs::check_binding_ref(s, table, index, field, key);
     let Found::Row(n) = found else {
         return found.refused();
     };
-    if same_kind(parts::binding_kind_at(p, n), kind) {
+    if same_kind(parts::binding_kind_of(p, n), kind) {
         return Outcome::Passed;
     }
     Outcome::Refused(Refusal::BindingKindMismatch {
@@ -63,6 +63,7 @@ pub fn check_binding(
 
 // A scope that a row names is there.
 pub fn check_scope(s: &TableStarts, table: u8, index: u32, field: u8, key: ScopeIndex) -> Outcome
+    requires { ⌜ Rising (now s) ⌝ }
     ensures { λ r. ⌜ Decides (refTo (rowsOf (now (s .entry))) table index field 7 (key .0) ∷ []) r ⌝ }
 {
     let found = refs::check_scope_ref(s, table, index, field, key);
@@ -80,6 +81,7 @@ pub fn check_reactor(
     field: u8,
     key: ReactorIndex,
 ) -> Outcome
+    requires { ⌜ Rising (now s) ⌝ }
     ensures { λ r. ⌜ Decides (refTo (rowsOf (now (s .entry))) table index field 2 (key .0) ∷ []) r ⌝ }
 {
     let found = refs::check_reactor_ref(s, table, index, field, key);

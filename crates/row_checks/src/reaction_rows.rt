@@ -2,9 +2,10 @@
 ghost use mathlib.Core.Path.{_≡_};
 ghost use mathlib.Core.Bool.{true};
 ghost use mathlib.Core.List.{[]};
+ghost use Prim.Native.Nat.{_<_};
 ghost use Rattle.answers.specs.Checks.{run, Decides};
 ghost use Rattle.answers.specs.PassesIf.{PassesIf};
-ghost use Rattle.checks.specs.Image.{image, rowsOf, modesAt, reactionsAt};
+ghost use Rattle.checks.specs.Image.{image, rowsOf, modesAt, reactionsAt, Rising, Within};
 ghost use Rattle.row_checks.specs.Fits.{Fits};
 ghost use Rattle.row_checks.specs.Reactions.{effectChecks, reactionOwnerChecks, reactionEndsBefore, reactionRangeChecks, reactionChecks};
 ghost use Rattle.schema.specs.Rows.{Whole};
@@ -38,44 +39,38 @@ fn fits(range: SliceRange, before: SliceRange, rows: u32) -> bool
 
 // Reactor, scope and binding are there, and the scope is the reactor's.
 fn owner_passes(p: &[u8], s: &TableStarts, i: u32) -> bool
-    requires { ⌜ Whole (now p) ⌝ }
+    requires { ⌜ Rising (now s) × (Within (now p) (now s) × (i < rowsOf (now s) 5)) ⌝ }
     ensures { λ r. ⌜ PassesIf (reactionOwnerChecks (image (now (p .entry)) [] [] (now (s .entry)) 0) i (reactionsAt (now (p .entry)) (now (s .entry)) i)) r ⌝ }
 {
-    let n = refs::row_number(s, ReactionImage::TABLE, i);
-    let reactor = parts::reaction_reactor_at(p, n);
+    let n = refs::row_of(s, ReactionImage::TABLE, i);
+    let reactor = parts::reaction_reactor_of(p, n);
     if refs::rows_of(s, ReactorImage::TABLE) <= reactor.0 {
         return false;
     }
-    let scope = parts::reaction_scope_at(p, n);
+    let scope = parts::reaction_scope_of(p, n);
     if refs::rows_of(s, ScopeImage::TABLE) <= scope.0 {
         return false;
     }
-    let binding = parts::reaction_binding_at(p, n);
+    let binding = parts::reaction_binding_of(p, n);
     if refs::rows_of(s, RequiredBindingImage::TABLE) <= binding.0 {
         return false;
     }
-    let b = refs::row_number(s, RequiredBindingImage::TABLE, binding.0);
-    if p.len() / 64 <= b {
+    let b = refs::row_of(s, RequiredBindingImage::TABLE, binding.0);
+    if !same_kind(parts::binding_kind_of(p, b), BindingKind::Reaction) {
         return false;
     }
-    if !same_kind(parts::binding_kind_at(p, b), BindingKind::Reaction) {
-        return false;
-    }
-    let c = refs::row_number(s, ScopeImage::TABLE, scope.0);
-    if p.len() / 64 <= c {
-        return false;
-    }
-    let owner = parts::scope_reactor_at(p, c);
+    let c = refs::row_of(s, ScopeImage::TABLE, scope.0);
+    let owner = parts::scope_reactor_of(p, c);
     owner.0 == reactor.0
 }
 
 // The target of a mode effect is there, and a mode of the reactor.
 fn effect_passes(p: &[u8], s: &TableStarts, i: u32) -> bool
-    requires { ⌜ Whole (now p) ⌝ }
+    requires { ⌜ Rising (now s) × (Within (now p) (now s) × (i < rowsOf (now s) 5)) ⌝ }
     ensures { λ r. ⌜ PassesIf (effectChecks (rowsOf (now (s .entry))) (modesAt (now (p .entry)) (now (s .entry))) i (reactionsAt (now (p .entry)) (now (s .entry)) i .reactor) (reactionsAt (now (p .entry)) (now (s .entry)) i .target)) r ⌝ }
 {
-    let n = refs::row_number(s, ReactionImage::TABLE, i);
-    let effect = parts::reaction_mode_effect_at(p, n);
+    let n = refs::row_of(s, ReactionImage::TABLE, i);
+    let effect = parts::reaction_mode_effect_of(p, n);
     let MaybeModeEffect::Effect(e) = effect else {
         return true;
     };
@@ -83,59 +78,50 @@ fn effect_passes(p: &[u8], s: &TableStarts, i: u32) -> bool
     if refs::rows_of(s, ModeImage::TABLE) <= target.0 {
         return false;
     }
-    let reactor = parts::reaction_reactor_at(p, n);
-    let m = refs::row_number(s, ModeImage::TABLE, target.0);
-    if p.len() / 64 <= m {
-        return false;
-    }
-    let owner = parts::mode_reactor_at(p, m);
+    let reactor = parts::reaction_reactor_of(p, n);
+    let m = refs::row_of(s, ModeImage::TABLE, target.0);
+    let owner = parts::mode_reactor_of(p, m);
     owner.0 == reactor.0
 }
 
 // The four ranges lie in their tables, each after the one of the row before; the first row is left to the full check.
 fn ranges_pass(p: &[u8], s: &TableStarts, i: u32) -> bool
-    requires { ⌜ Whole (now p) ⌝ }
+    requires { ⌜ Rising (now s) × (Within (now p) (now s) × (i < rowsOf (now s) 5)) ⌝ }
     ensures { λ r. ⌜ PassesIf (reactionRangeChecks (rowsOf (now (s .entry))) i (reactionsAt (now (p .entry)) (now (s .entry)) i) (reactionEndsBefore (reactionsAt (now (p .entry)) (now (s .entry))) i)) r ⌝ }
 {
     if i == 0 {
         return false;
     }
-    let n = refs::row_number(s, ReactionImage::TABLE, i);
-    let m = refs::row_number(s, ReactionImage::TABLE, i - 1);
-    if p.len() / 64 <= m {
-        return false;
-    }
+    let n = refs::row_of(s, ReactionImage::TABLE, i);
+    let m = refs::row_of(s, ReactionImage::TABLE, i - 1);
     let uses = fits(
-        parts::reaction_use_ports_at(p, n),
-        parts::reaction_use_ports_at(p, m),
+        parts::reaction_use_ports_of(p, n),
+        parts::reaction_use_ports_of(p, m),
         refs::rows_of(s, ReactionUsePort::TABLE),
     );
     let effects = fits(
-        parts::reaction_effect_ports_at(p, n),
-        parts::reaction_effect_ports_at(p, m),
+        parts::reaction_effect_ports_of(p, n),
+        parts::reaction_effect_ports_of(p, m),
         refs::rows_of(s, ReactionEffectPort::TABLE),
     );
     let actions = fits(
-        parts::reaction_actions_at(p, n),
-        parts::reaction_actions_at(p, m),
+        parts::reaction_actions_of(p, n),
+        parts::reaction_actions_of(p, m),
         refs::rows_of(s, ReactionAction::TABLE),
     );
     let enabled = fits(
-        parts::reaction_enabled_modes_at(p, n),
-        parts::reaction_enabled_modes_at(p, m),
+        parts::reaction_enabled_modes_of(p, n),
+        parts::reaction_enabled_modes_of(p, m),
         refs::rows_of(s, ReactionMode::TABLE),
     );
     (uses & effects) & (actions & enabled)
 }
 
-// Row i of the reactions. Records past the pack are left to the full check, here and above, so that the readers need not test for them again.
+// Row i of the reactions.
 fn reaction_passes(p: &[u8], s: &TableStarts, i: u32) -> bool
-    requires { ⌜ Whole (now p) ⌝ }
+    requires { ⌜ Rising (now s) × (Within (now p) (now s) × (i < rowsOf (now s) 5)) ⌝ }
     ensures { λ r. ⌜ PassesIf (reactionChecks (image (now (p .entry)) [] [] (now (s .entry)) 0) i) r ⌝ }
 {
-    if p.len() / 64 <= refs::row_number(s, ReactionImage::TABLE, i) {
-        return false;
-    }
     if !owner_passes(p, s, i) {
         return false;
     }
@@ -147,7 +133,7 @@ fn reaction_passes(p: &[u8], s: &TableStarts, i: u32) -> bool
 
 // Every row of the reactions.
 pub fn check_reactions(p: &[u8], s: &TableStarts) -> Outcome
-    requires { ⌜ Whole (now p) ⌝ }
+    requires { ⌜ Whole (now p) × (Rising (now s) × Within (now p) (now s)) ⌝ }
     ensures { λ r. ⌜ Decides (run (reactionChecks (image (now (p .entry)) [] [] (now (s .entry)) 0)) 0 (rowsOf (now (s .entry)) 5)) r ⌝ }
 {
     let rows = refs::rows_of(s, ReactionImage::TABLE);

@@ -4,7 +4,7 @@ ghost use mathlib.Core.List.{[], _∷_};
 ghost use Prim.Native.Nat.{_<_};
 ghost use lib.Dec.{eqb};
 ghost use Rattle.answers.specs.Checks.{Decides, need};
-ghost use Rattle.checks.specs.Image.{image, rowsOf, scopesAt, modesAt, effectTarget, reactionPart, reactionsAt};
+ghost use Rattle.checks.specs.Image.{image, rowsOf, scopesAt, modesAt, effectTarget, reactionPart, reactionsAt, Rising, Within};
 ghost use Rattle.checks.specs.Refs.{rangeChecks};
 ghost use Rattle.row_checks.specs.Reactions.{effectChecks, reactionOwnerChecks, reactionEndsBefore, reactionRangeChecks, reactionRow, reactionChecks};
 ghost use Rattle.schema.specs.Rows.{Whole};
@@ -38,7 +38,7 @@ pub struct ReactionEnds {
 
 // Where the ranges of the row before end; 0 before the first row.
 fn ends_before(p: &[u8], s: &TableStarts, i: u32) -> ReactionEnds
-    requires { ⌜ Whole (now p) ⌝ }
+    requires { ⌜ Rising (now s) × (Within (now p) (now s) × (i < rowsOf (now s) 5)) ⌝ }
     ensures { λ r. ⌜ r ≡ reactionEndsBefore (reactionsAt (now (p .entry)) (now (s .entry))) i ⌝ }
 {
     if i == 0 {
@@ -49,11 +49,11 @@ fn ends_before(p: &[u8], s: &TableStarts, i: u32) -> ReactionEnds
             enabled: 0,
         };
     }
-    let n = refs::row_number(s, ReactionImage::TABLE, i - 1);
-    let uses = parts::reaction_use_ports_at(p, n);
-    let effects = parts::reaction_effect_ports_at(p, n);
-    let actions = parts::reaction_actions_at(p, n);
-    let enabled = parts::reaction_enabled_modes_at(p, n);
+    let n = refs::row_of(s, ReactionImage::TABLE, i - 1);
+    let uses = parts::reaction_use_ports_of(p, n);
+    let effects = parts::reaction_effect_ports_of(p, n);
+    let actions = parts::reaction_actions_of(p, n);
+    let enabled = parts::reaction_enabled_modes_of(p, n);
     ReactionEnds {
         uses: uses.saturating_end(),
         effects: effects.saturating_end(),
@@ -80,10 +80,11 @@ fn check_scope_reactor(
     scope: ScopeIndex,
     reactor: ReactorIndex,
 ) -> Outcome
-    requires { ⌜ Whole (now p) ⌝ }
+    requires { ⌜ Whole (now p) × (Rising (now s) × Within (now p) (now s)) ⌝ }
     ensures { λ r. ⌜ Decides (need (eqb (scopesAt (now (p .entry)) (now (s .entry)) (scope .0) .reactor .0) (reactor .0)) (Refusal.OwnershipMismatch 5 i 10) ∷ []) r ⌝ }
 {
-    let owner = parts::scope_reactor_at(p, refs::row_number(s, ScopeImage::TABLE, scope.0));
+    let row = read::scope_at(p, refs::row_number(s, ScopeImage::TABLE, scope.0));
+    let owner = row.reactor;
     if owner.0 == reactor.0 {
         return Outcome::Passed;
     }
@@ -91,7 +92,7 @@ fn check_scope_reactor(
 }
 
 fn check_reaction_owner(p: &[u8], s: &TableStarts, i: u32, row: ReactionImage) -> Outcome
-    requires { ⌜ Whole (now p) ⌝ }
+    requires { ⌜ Whole (now p) × (Rising (now s) × Within (now p) (now s)) ⌝ }
     ensures { λ r. ⌜ Decides (reactionOwnerChecks (image (now (p .entry)) [] [] (now (s .entry)) 0) i (reactionPart row)) r ⌝ }
 {
     let table = ReactionImage::TABLE;
@@ -119,7 +120,7 @@ fn check_effect(
     reactor: ReactorIndex,
     effect: MaybeModeEffect,
 ) -> Outcome
-    requires { ⌜ Whole (now p) ⌝ }
+    requires { ⌜ Whole (now p) × (Rising (now s) × Within (now p) (now s)) ⌝ }
     ensures { λ r. ⌜ Decides (effectChecks (rowsOf (now (s .entry))) (modesAt (now (p .entry)) (now (s .entry))) i (reactor .0) (effectTarget effect)) r ⌝ }
 {
     let MaybeModeEffect::Effect(e) = effect else {
@@ -152,7 +153,7 @@ fn check_range(
     range: SliceRange,
     previous: u64,
 ) -> Outcome
-    requires { ⌜ target < 25 ⌝ }
+    requires { ⌜ Rising (now s) × (target < 25) ⌝ }
     ensures { λ r. ⌜ Decides (rangeChecks (rowsOf (now (s .entry))) 5 i field target range previous) r ⌝ }
 {
     refs::check_enclave_range(s, ReactionImage::TABLE, i, field, target, range, previous)
@@ -164,6 +165,7 @@ fn check_reaction_ranges(
     row: ReactionImage,
     previous: ReactionEnds,
 ) -> Outcome
+    requires { ⌜ Rising (now s) ⌝ }
     ensures { λ r. ⌜ Decides (reactionRangeChecks (rowsOf (now (s .entry))) i (reactionPart row) previous) r ⌝ }
 {
     let table = ReactionUsePort::TABLE;
@@ -206,7 +208,7 @@ fn check_reaction_row(
     row: ReactionImage,
     previous: ReactionEnds,
 ) -> Outcome
-    requires { ⌜ Whole (now p) ⌝ }
+    requires { ⌜ Whole (now p) × (Rising (now s) × Within (now p) (now s)) ⌝ }
     ensures { λ r. ⌜ Decides (reactionRow (image (now (p .entry)) [] [] (now (s .entry)) 0) i (reactionPart row) previous) r ⌝ }
 {
     let owner = check_reaction_owner(p, s, i, row);
@@ -223,7 +225,7 @@ fn check_reaction_row(
 
 // Row i of the reactions.
 pub fn check_reaction(p: &[u8], s: &TableStarts, i: u32) -> Outcome
-    requires { ⌜ Whole (now p) ⌝ }
+    requires { ⌜ Whole (now p) × (Rising (now s) × (Within (now p) (now s) × (i < rowsOf (now s) 5))) ⌝ }
     ensures { λ r. ⌜ Decides (reactionChecks (image (now (p .entry)) [] [] (now (s .entry)) 0) i) r ⌝ }
 {
     let row = read::reaction_at(p, refs::row_number(s, ReactionImage::TABLE, i));

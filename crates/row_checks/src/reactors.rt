@@ -1,11 +1,12 @@
 // The checks of a row of reactors.
 ghost use mathlib.Core.Path.{_≡_};
-ghost use Prim.Native.Nat.{_+_};
+ghost use Prim.Native.Nat.{_+_, _/_, _<_};
+ghost use lib.ListN.{length};
 ghost use mathlib.Core.List.{[]};
 ghost use mathlib.Core.Bool.{_&&_};
 ghost use lib.Dec.{eqb};
 ghost use Rattle.answers.specs.Checks.{Decides, run};
-ghost use Rattle.checks.specs.Image.{image, startOf, rowsOf, scopesAt};
+ghost use Rattle.checks.specs.Image.{image, startOf, rowsOf, scopesAt, Rising, Within};
 ghost use Rattle.checks.specs.Refs.{endBefore, spanEnd};
 ghost use Rattle.schema.specs.Rows.{Whole, enclaveAt, reactorAt, scopeAt};
 ghost use Rattle.row_checks.specs.Reactors.{slotChecks, isNoMode, rootScopeChecks, initialModeChecks, bankChecks, reactorRow, reactorChecks};
@@ -50,14 +51,14 @@ fn check_state_slot(p: &[u8], n: usize, i: u32, slot: u32) -> Outcome
 
 // Whether the scope of record n is reactor i's, and no mode's.
 fn own_root(p: &[u8], n: usize, i: u32) -> bool
-    requires { ⌜ Whole (now p) ⌝ }
+    requires { ⌜ n < length (now p) / 64 ⌝ }
     ensures { λ r. ⌜ r ≡ (eqb (scopeAt (now (p .entry)) n .reactor .0) i && isNoMode (scopeAt (now (p .entry)) n .mode)) ⌝ }
 {
-    let reactor = parts::scope_reactor_at(p, n);
+    let reactor = parts::scope_reactor_of(p, n);
     if reactor.0 != i {
         return false;
     }
-    let mode = parts::scope_mode_at(p, n);
+    let mode = parts::scope_mode_of(p, n);
     match mode {
         MaybeMode::NoMode => true,
         MaybeMode::Mode(_) => false,
@@ -65,7 +66,7 @@ fn own_root(p: &[u8], n: usize, i: u32) -> bool
 }
 
 fn check_root_scope(p: &[u8], s: &TableStarts, i: u32, key: ScopeIndex) -> Outcome
-    requires { ⌜ Whole (now p) ⌝ }
+    requires { ⌜ Whole (now p) × (Rising (now s) × Within (now p) (now s)) ⌝ }
     ensures { λ r. ⌜ Decides (rootScopeChecks (rowsOf (now (s .entry))) (scopesAt (now (p .entry)) (now (s .entry))) i (key .0)) r ⌝ }
 {
     let found = refs::check_scope_ref(s, ReactorImage::TABLE, i, field::ROOT_SCOPE, key);
@@ -83,6 +84,7 @@ fn check_root_scope(p: &[u8], s: &TableStarts, i: u32, key: ScopeIndex) -> Outco
 }
 
 fn check_initial_mode(s: &TableStarts, i: u32, span: IndexSpan, mode: MaybeMode) -> Outcome
+    requires { ⌜ Rising (now s) ⌝ }
     ensures { λ r. ⌜ Decides (initialModeChecks (rowsOf (now (s .entry))) i span mode) r ⌝ }
 {
     let MaybeMode::Mode(m) = mode else {
@@ -120,14 +122,14 @@ fn check_bank(i: u32, bank: MaybeBank) -> Outcome
 
 // Where the modes of the row before end; 0 before the first row.
 fn modes_end_before(p: &[u8], s: &TableStarts, i: u32) -> u64
-    requires { ⌜ Whole (now p) ⌝ }
+    requires { ⌜ Rising (now s) × (Within (now p) (now s) × (i < rowsOf (now s) 2)) ⌝ }
     ensures { λ r. ⌜ r ≡ endBefore (λ j. spanEnd (reactorAt (now (p .entry)) (startOf (now (s .entry)) 2 + j) .modes .0)) i ⌝ }
 {
     if i == 0 {
         return 0;
     }
-    let n = refs::row_number(s, ReactorImage::TABLE, i - 1);
-    let modes = parts::reactor_modes_at(p, n);
+    let n = refs::row_of(s, ReactorImage::TABLE, i - 1);
+    let modes = parts::reactor_modes_of(p, n);
     let span = modes.0;
     span.saturating_end()
 }
@@ -140,7 +142,7 @@ fn check_reactor_row(
     row: ReactorImage,
     previous: u64,
 ) -> Outcome
-    requires { ⌜ Whole (now p) ⌝ }
+    requires { ⌜ Whole (now p) × (Rising (now s) × Within (now p) (now s)) ⌝ }
     ensures { λ r. ⌜ Decides (reactorRow (image (now (p .entry)) [] [] (now (s .entry)) n) i row previous) r ⌝ }
 {
     let binding = crate::bindings::check_binding(
@@ -188,7 +190,7 @@ fn check_reactor_row(
 
 // Row i of the reactors, in the enclave of record n.
 fn check_reactor(p: &[u8], s: &TableStarts, n: usize, i: u32) -> Outcome
-    requires { ⌜ Whole (now p) ⌝ }
+    requires { ⌜ Whole (now p) × (Rising (now s) × (Within (now p) (now s) × (i < rowsOf (now s) 2))) ⌝ }
     ensures { λ r. ⌜ Decides (reactorChecks (image (now (p .entry)) [] [] (now (s .entry)) n) i) r ⌝ }
 {
     let row = read::reactor_at(p, refs::row_number(s, ReactorImage::TABLE, i));
@@ -197,7 +199,7 @@ fn check_reactor(p: &[u8], s: &TableStarts, n: usize, i: u32) -> Outcome
 
 // Every row of the reactors, in the enclave of record n.
 pub fn check_reactors(p: &[u8], s: &TableStarts, n: usize) -> Outcome
-    requires { ⌜ Whole (now p) ⌝ }
+    requires { ⌜ Whole (now p) × (Rising (now s) × Within (now p) (now s)) ⌝ }
     ensures { λ r. ⌜ Decides (run (reactorChecks (image (now (p .entry)) [] [] (now (s .entry)) n)) 0 (rowsOf (now (s .entry)) 2)) r ⌝ }
 {
     let rows = refs::rows_of(s, ReactorImage::TABLE);

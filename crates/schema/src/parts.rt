@@ -1,4 +1,4 @@
-// Readers of single fields of a row, by slice and record number: what a check needs of a row that another row names.
+// Readers of single fields of a row, by slice and record number: what a check needs of a row that another row names. Those named `_of` ask for a record inside the pack.
 ghost use mathlib.Core.Path.{_≡_};
 ghost use Prim.Native.Nat.{_+_, _*_, _/_, _%_, _<_, _≤_};
 ghost use lib.ListN.{length};
@@ -20,9 +20,12 @@ use crate::number::low;
 use crate::read::bit;
 use crate::read::byte_of;
 use crate::read::kind_of;
+use crate::read::long_of;
 use crate::read::maybe_effect;
 use crate::read::maybe_mode;
 use crate::read::maybe_scope;
+use crate::read::place_of;
+use crate::read::range_of;
 use crate::read::word_of;
 use crate::read::words_of;
 use identity::IdentityPlace;
@@ -30,7 +33,7 @@ use range::IndexSpan;
 use range::ModeSpan;
 use range::SliceRange;
 
-// Byte j of record n, the W, two W's and the D from byte j, for any record number: zero past the pack.
+// Byte j of record n, the W and two W's from byte j, for any record number: zero past the pack.
 pub fn byte_at(p: &[u8], n: usize, j: usize) -> u8
     requires { ⌜ Whole (now p) × (j < 64) ⌝ }
     ensures { λ r. ⌜ r ≡ byteOf (now (p .entry)) n j ⌝ }
@@ -59,13 +62,6 @@ pub fn words_at(p: &[u8], n: usize, j: usize) -> u64
         return words_of(p, n, j);
     }
     0
-}
-
-pub fn long_at(p: &[u8], n: usize, j: usize) -> u64
-    requires { ⌜ Whole (now p) × (j ≤ 56) ⌝ }
-    ensures { λ r. ⌜ r ≡ number 8 (now (p .entry)) (n * 64 + j) ⌝ }
-{
-    words_at(p, n, j)
 }
 
 // The start and the length from byte j of record n.
@@ -115,99 +111,99 @@ pub fn action_slots_at(p: &[u8], n: usize) -> u32
     word_at(p, n, 16)
 }
 
-pub fn reactor_modes_at(p: &[u8], n: usize) -> ModeSpan
-    requires { ⌜ Whole (now p) ⌝ }
+pub fn reactor_modes_of(p: &[u8], n: usize) -> ModeSpan
+    requires { ⌜ n < length (now p) / 64 ⌝ }
     ensures { λ r. ⌜ r ≡ reactorAt (now (p .entry)) n .modes ⌝ }
 {
     ModeSpan(IndexSpan {
-        start: long_at(p, n, 16),
-        len: long_at(p, n, 24),
+        start: long_of(p, n, 16),
+        len: long_of(p, n, 24),
     })
 }
 
-pub fn action_triggers_at(p: &[u8], n: usize) -> SliceRange
-    requires { ⌜ Whole (now p) ⌝ }
+pub fn action_triggers_of(p: &[u8], n: usize) -> SliceRange
+    requires { ⌜ n < length (now p) / 64 ⌝ }
     ensures { λ r. ⌜ r ≡ actionAt (now (p .entry)) n .triggers ⌝ }
 {
-    range_at(p, n, 24)
+    range_of(p, n, 24)
 }
 
-pub fn port_triggers_at(p: &[u8], n: usize) -> SliceRange
-    requires { ⌜ Whole (now p) ⌝ }
+pub fn port_triggers_of(p: &[u8], n: usize) -> SliceRange
+    requires { ⌜ n < length (now p) / 64 ⌝ }
     ensures { λ r. ⌜ r ≡ portAt (now (p .entry)) n .triggers ⌝ }
 {
-    range_at(p, n, 12)
+    range_of(p, n, 12)
 }
 
-pub fn reaction_reactor_at(p: &[u8], n: usize) -> ReactorIndex
-    requires { ⌜ Whole (now p) ⌝ }
+pub fn reaction_reactor_of(p: &[u8], n: usize) -> ReactorIndex
+    requires { ⌜ n < length (now p) / 64 ⌝ }
     ensures { λ r. ⌜ r ≡ reactionAt (now (p .entry)) n .reactor ⌝ }
 {
-    ReactorIndex(word_at(p, n, 4))
+    ReactorIndex(word_of(p, n, 4))
 }
 
-pub fn reaction_scope_at(p: &[u8], n: usize) -> ScopeIndex
-    requires { ⌜ Whole (now p) ⌝ }
+pub fn reaction_scope_of(p: &[u8], n: usize) -> ScopeIndex
+    requires { ⌜ n < length (now p) / 64 ⌝ }
     ensures { λ r. ⌜ r ≡ reactionAt (now (p .entry)) n .scope ⌝ }
 {
-    ScopeIndex(word_at(p, n, 8))
+    ScopeIndex(word_of(p, n, 8))
 }
 
-pub fn reaction_binding_at(p: &[u8], n: usize) -> BindingSlotIndex
-    requires { ⌜ Whole (now p) ⌝ }
+pub fn reaction_binding_of(p: &[u8], n: usize) -> BindingSlotIndex
+    requires { ⌜ n < length (now p) / 64 ⌝ }
     ensures { λ r. ⌜ r ≡ reactionAt (now (p .entry)) n .binding ⌝ }
 {
-    BindingSlotIndex(word_at(p, n, 16))
+    BindingSlotIndex(word_of(p, n, 16))
 }
 
-pub fn reaction_level_at(p: &[u8], n: usize) -> u32
-    requires { ⌜ Whole (now p) ⌝ }
+pub fn reaction_level_of(p: &[u8], n: usize) -> u32
+    requires { ⌜ n < length (now p) / 64 ⌝ }
     ensures { λ r. ⌜ r ≡ reactionAt (now (p .entry)) n .«dependency_level» ⌝ }
 {
-    word_at(p, n, 12)
+    word_of(p, n, 12)
 }
 
-pub fn reaction_use_ports_at(p: &[u8], n: usize) -> SliceRange
-    requires { ⌜ Whole (now p) ⌝ }
+pub fn reaction_use_ports_of(p: &[u8], n: usize) -> SliceRange
+    requires { ⌜ n < length (now p) / 64 ⌝ }
     ensures { λ r. ⌜ r ≡ reactionAt (now (p .entry)) n .«use_ports» ⌝ }
 {
-    range_at(p, n, 20)
+    range_of(p, n, 20)
 }
 
-pub fn reaction_effect_ports_at(p: &[u8], n: usize) -> SliceRange
-    requires { ⌜ Whole (now p) ⌝ }
+pub fn reaction_effect_ports_of(p: &[u8], n: usize) -> SliceRange
+    requires { ⌜ n < length (now p) / 64 ⌝ }
     ensures { λ r. ⌜ r ≡ reactionAt (now (p .entry)) n .«effect_ports» ⌝ }
 {
-    range_at(p, n, 28)
+    range_of(p, n, 28)
 }
 
-pub fn reaction_actions_at(p: &[u8], n: usize) -> SliceRange
-    requires { ⌜ Whole (now p) ⌝ }
+pub fn reaction_actions_of(p: &[u8], n: usize) -> SliceRange
+    requires { ⌜ n < length (now p) / 64 ⌝ }
     ensures { λ r. ⌜ r ≡ reactionAt (now (p .entry)) n .actions ⌝ }
 {
-    range_at(p, n, 36)
+    range_of(p, n, 36)
 }
 
-pub fn reaction_enabled_modes_at(p: &[u8], n: usize) -> SliceRange
-    requires { ⌜ Whole (now p) ⌝ }
+pub fn reaction_enabled_modes_of(p: &[u8], n: usize) -> SliceRange
+    requires { ⌜ n < length (now p) / 64 ⌝ }
     ensures { λ r. ⌜ r ≡ reactionAt (now (p .entry)) n .«enabled_modes» ⌝ }
 {
-    range_at(p, n, 44)
+    range_of(p, n, 44)
 }
 
-pub fn reaction_mode_effect_at(p: &[u8], n: usize) -> MaybeModeEffect
-    requires { ⌜ Whole (now p) ⌝ }
+pub fn reaction_mode_effect_of(p: &[u8], n: usize) -> MaybeModeEffect
+    requires { ⌜ n < length (now p) / 64 ⌝ }
     ensures { λ r. ⌜ r ≡ reactionAt (now (p .entry)) n .«mode_effect» ⌝ }
 {
-    let present = bit(byte_at(p, n, 1), 2);
-    maybe_effect(present, byte_at(p, n, 2), word_at(p, n, 52))
+    let present = bit(byte_of(p, n, 1), 2);
+    maybe_effect(present, byte_of(p, n, 2), word_of(p, n, 52))
 }
 
-pub fn mode_reactor_at(p: &[u8], n: usize) -> ReactorIndex
-    requires { ⌜ Whole (now p) ⌝ }
+pub fn mode_reactor_of(p: &[u8], n: usize) -> ReactorIndex
+    requires { ⌜ n < length (now p) / 64 ⌝ }
     ensures { λ r. ⌜ r ≡ modeAt (now (p .entry)) n .reactor ⌝ }
 {
-    ReactorIndex(word_at(p, n, 4))
+    ReactorIndex(word_of(p, n, 4))
 }
 
 pub fn scope_parent_at(p: &[u8], n: usize) -> MaybeScope
@@ -217,39 +213,39 @@ pub fn scope_parent_at(p: &[u8], n: usize) -> MaybeScope
     maybe_scope(bit(byte_at(p, n, 1), 1), word_at(p, n, 4))
 }
 
-pub fn scope_reactor_at(p: &[u8], n: usize) -> ReactorIndex
-    requires { ⌜ Whole (now p) ⌝ }
+pub fn scope_reactor_of(p: &[u8], n: usize) -> ReactorIndex
+    requires { ⌜ n < length (now p) / 64 ⌝ }
     ensures { λ r. ⌜ r ≡ scopeAt (now (p .entry)) n .reactor ⌝ }
 {
-    ReactorIndex(word_at(p, n, 8))
+    ReactorIndex(word_of(p, n, 8))
 }
 
-pub fn scope_mode_at(p: &[u8], n: usize) -> MaybeMode
-    requires { ⌜ Whole (now p) ⌝ }
+pub fn scope_mode_of(p: &[u8], n: usize) -> MaybeMode
+    requires { ⌜ n < length (now p) / 64 ⌝ }
     ensures { λ r. ⌜ r ≡ scopeAt (now (p .entry)) n .mode ⌝ }
 {
-    maybe_mode(bit(byte_at(p, n, 1), 2), word_at(p, n, 12))
+    maybe_mode(bit(byte_of(p, n, 1), 2), word_of(p, n, 12))
 }
 
-pub fn scope_reset_reactions_at(p: &[u8], n: usize) -> SliceRange
-    requires { ⌜ Whole (now p) ⌝ }
+pub fn scope_reset_reactions_of(p: &[u8], n: usize) -> SliceRange
+    requires { ⌜ n < length (now p) / 64 ⌝ }
     ensures { λ r. ⌜ r ≡ scopeAt (now (p .entry)) n .«reset_reactions» ⌝ }
 {
-    range_at(p, n, 40)
+    range_of(p, n, 40)
 }
 
-pub fn scope_startup_reactions_at(p: &[u8], n: usize) -> SliceRange
-    requires { ⌜ Whole (now p) ⌝ }
+pub fn scope_startup_reactions_of(p: &[u8], n: usize) -> SliceRange
+    requires { ⌜ n < length (now p) / 64 ⌝ }
     ensures { λ r. ⌜ r ≡ scopeAt (now (p .entry)) n .«startup_reactions» ⌝ }
 {
-    range_at(p, n, 48)
+    range_of(p, n, 48)
 }
 
-pub fn scope_shutdown_reactions_at(p: &[u8], n: usize) -> SliceRange
-    requires { ⌜ Whole (now p) ⌝ }
+pub fn scope_shutdown_reactions_of(p: &[u8], n: usize) -> SliceRange
+    requires { ⌜ n < length (now p) / 64 ⌝ }
     ensures { λ r. ⌜ r ≡ scopeAt (now (p .entry)) n .«shutdown_reactions» ⌝ }
 {
-    range_at(p, n, 56)
+    range_of(p, n, 56)
 }
 
 // The action of a lifecycle reaction, and its level and reaction.
@@ -267,18 +263,18 @@ pub fn lifecycle_reaction_at(p: &[u8], n: usize) -> LevelReactionImage
     crate::read_lists::level_at(p, n)
 }
 
-pub fn binding_kind_at(p: &[u8], n: usize) -> BindingKind
-    requires { ⌜ Whole (now p) ⌝ }
+pub fn binding_kind_of(p: &[u8], n: usize) -> BindingKind
+    requires { ⌜ n < length (now p) / 64 ⌝ }
     ensures { λ r. ⌜ r ≡ bindingAt (now (p .entry)) n .kind ⌝ }
 {
-    kind_of(byte_at(p, n, 2))
+    kind_of(byte_of(p, n, 2))
 }
 
-pub fn binding_id_at(p: &[u8], n: usize) -> IdentityPlace
-    requires { ⌜ Whole (now p) ⌝ }
+pub fn binding_id_of(p: &[u8], n: usize) -> IdentityPlace
+    requires { ⌜ n < length (now p) / 64 ⌝ }
     ensures { λ r. ⌜ r ≡ bindingAt (now (p .entry)) n .id ⌝ }
 {
-    place_at(p, n)
+    place_of(bit(byte_of(p, n, 1), 1), p, n, 4)
 }
 
 pub fn route_boundary_at(p: &[u8], n: usize) -> IdentityPlace
@@ -288,9 +284,16 @@ pub fn route_boundary_at(p: &[u8], n: usize) -> IdentityPlace
     place_at(p, n)
 }
 
-pub fn route_port_at(p: &[u8], n: usize) -> PortIndex
-    requires { ⌜ Whole (now p) ⌝ }
+pub fn route_boundary_of(p: &[u8], n: usize) -> IdentityPlace
+    requires { ⌜ n < length (now p) / 64 ⌝ }
+    ensures { λ r. ⌜ r ≡ routeAt (now (p .entry)) n .boundary ⌝ }
+{
+    place_of(bit(byte_of(p, n, 1), 1), p, n, 4)
+}
+
+pub fn route_port_of(p: &[u8], n: usize) -> PortIndex
+    requires { ⌜ n < length (now p) / 64 ⌝ }
     ensures { λ r. ⌜ r ≡ routeAt (now (p .entry)) n .«local_port» ⌝ }
 {
-    PortIndex(word_at(p, n, 12))
+    PortIndex(word_of(p, n, 12))
 }

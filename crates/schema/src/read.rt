@@ -93,7 +93,7 @@ pub fn range_of(p: &[u8], n: usize, j: usize) -> SliceRange
     }
 }
 
-fn place_of(house: bool, p: &[u8], n: usize, j: usize) -> IdentityPlace
+pub fn place_of(house: bool, p: &[u8], n: usize, j: usize) -> IdentityPlace
     requires { ⌜ (n < length (now p) / 64) × (j ≤ 56) ⌝ }
     ensures { λ r. ⌜ r ≡ record { house = house; start = number 4 (now (p .entry)) (n * 64 + j); len = number 4 (now (p .entry)) (n * 64 + (j + 4)) } ⌝ }
 {

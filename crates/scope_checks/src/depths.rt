@@ -4,7 +4,7 @@ ghost use mathlib.Core.Path.{_≡_};
 ghost use mathlib.Core.List.{[]};
 ghost use Prim.Native.Nat.{_+_, _<_, _≤_};
 ghost use lib.ListN.{getD};
-ghost use Rattle.checks.specs.Image.{image, rowsOf};
+ghost use Rattle.checks.specs.Image.{image, rowsOf, Rising, Within};
 ghost use Rattle.scope_checks.specs.Links.{linksOf, parents};
 ghost use Rattle.scope_checks.specs.Depths.{allParents, least, Known, Settling};
 ghost use Rattle.schema.specs.Rows.{Whole};
@@ -46,7 +46,7 @@ fn joined(n: u32, followed: u32, known: u32) -> u32
 
 // The links of scope i, as `links_of` gives them.
 fn links_by(p: &[u8], s: &TableStarts, depths: &[u32], i: u32) -> u32
-    requires { ⌜ Whole (now p) × Known (image (now p) [] [] (now s) 0) (now depths) ⌝ }
+    requires { ⌜ Whole (now p) × (Rising (now s) × (Within (now p) (now s) × Known (image (now p) [] [] (now s) 0) (now depths))) ⌝ }
     ensures { λ r. ⌜ r ≡ linksOf (parents (image (now (p .entry)) [] [] (now (s .entry)) 0)) (rowsOf (now (s .entry)) 7) i ⌝ }
 {
     let n = refs::rows_of(s, ScopeImage::TABLE);
@@ -69,7 +69,7 @@ fn links_by(p: &[u8], s: &TableStarts, depths: &[u32], i: u32) -> u32
 
 // Writes the depth of scope i and those of the scopes above it, up to the first that is known.
 fn settle(p: &[u8], s: &TableStarts, depths: &mut [u32], i: u32, depth: u32)
-    requires { ⌜ Whole (now p) × Settling (image (now p) [] [] (now s) 0) (now depths) i depth ⌝ }
+    requires { ⌜ Whole (now p) × (Rising (now s) × (Within (now p) (now s) × Settling (image (now p) [] [] (now s) 0) (now depths) i depth)) ⌝ }
     ensures { λ _. ⌜ Known (image (now (p .entry)) [] [] (now (s .entry)) 0) (now (depths .exit)) ⌝ }
 {
     let mut at = i;
@@ -91,7 +91,7 @@ fn settle(p: &[u8], s: &TableStarts, depths: &mut [u32], i: u32, depth: u32)
 
 // The parents of every scope, with room for their depths.
 fn check_parents_by(p: &[u8], s: &TableStarts, depths: &mut [u32]) -> Parents
-    requires { ⌜ Whole (now p) × Known (image (now p) [] [] (now s) 0) (now depths) ⌝ }
+    requires { ⌜ Whole (now p) × (Rising (now s) × (Within (now p) (now s) × Known (image (now p) [] [] (now s) 0) (now depths))) ⌝ }
     ensures { λ r. ⌜ r ≡ allParents (image (now (p .entry)) [] [] (now (s .entry)) 0) ⌝ }
 {
     let n = refs::rows_of(s, ScopeImage::TABLE);
@@ -112,7 +112,7 @@ fn check_parents_by(p: &[u8], s: &TableStarts, depths: &mut [u32]) -> Parents
 // The parents of every scope, with the room that is lent, or with the most where there are more scopes.
 // It calls itself, so the compiler keeps its 256 KiB out of the callers' frames: smaller images do not pay for them.
 fn check_parents_in(p: &[u8], s: &TableStarts, depths: &mut [u32]) -> Parents
-    requires { ⌜ Whole (now p) × Known (image (now p) [] [] (now s) 0) (now depths) ⌝ }
+    requires { ⌜ Whole (now p) × (Rising (now s) × (Within (now p) (now s) × Known (image (now p) [] [] (now s) 0) (now depths))) ⌝ }
     ensures { λ r. ⌜ r ≡ allParents (image (now (p .entry)) [] [] (now (s .entry)) 0) ⌝ }
 {
     let n = refs::rows_of(s, ScopeImage::TABLE) as usize;
@@ -126,7 +126,7 @@ fn check_parents_in(p: &[u8], s: &TableStarts, depths: &mut [u32]) -> Parents
 
 // The same where the most is not needed. It calls itself too, which keeps its 16 KiB out of the frames of images with few scopes.
 fn check_parents_some(p: &[u8], s: &TableStarts, depths: &mut [u32]) -> Parents
-    requires { ⌜ Whole (now p) × Known (image (now p) [] [] (now s) 0) (now depths) ⌝ }
+    requires { ⌜ Whole (now p) × (Rising (now s) × (Within (now p) (now s) × Known (image (now p) [] [] (now s) 0) (now depths))) ⌝ }
     ensures { λ r. ⌜ r ≡ allParents (image (now (p .entry)) [] [] (now (s .entry)) 0) ⌝ }
 {
     if depths.len() < MEDIUM {
@@ -137,7 +137,7 @@ fn check_parents_some(p: &[u8], s: &TableStarts, depths: &mut [u32]) -> Parents
 
 // The parents of every scope, each scope's links found once.
 pub fn check_parents_once(p: &[u8], s: &TableStarts) -> Parents
-    requires { ⌜ Whole (now p) ⌝ }
+    requires { ⌜ Whole (now p) × (Rising (now s) × Within (now p) (now s)) ⌝ }
     ensures { λ r. ⌜ r ≡ allParents (image (now (p .entry)) [] [] (now (s .entry)) 0) ⌝ }
 {
     let n = refs::rows_of(s, ScopeImage::TABLE) as usize;

@@ -2,7 +2,7 @@
 ghost use mathlib.Core.Path.{_≡_};
 ghost use mathlib.Core.List.{[]};
 ghost use Rattle.answers.specs.Checks.{Decides};
-ghost use Rattle.checks.specs.Image.{image, rowsOf, scopesAt};
+ghost use Rattle.checks.specs.Image.{image, rowsOf, scopesAt, Rising, Within};
 ghost use Prim.Native.Nat.{_<_};
 ghost use Rattle.checks.specs.Refs.{rangeChecks};
 ghost use Rattle.scope_checks.specs.Ends.{endsOf, noEnds, memberRangeChecks, reactionRangeChecks, scopeRangeChecks, Moves};
@@ -75,7 +75,7 @@ fn check_range(
     range: SliceRange,
     end: u64,
 ) -> Outcome
-    requires { ⌜ target < 25 ⌝ }
+    requires { ⌜ Rising (now s) × (target < 25) ⌝ }
     ensures { λ r. ⌜ Decides (rangeChecks (rowsOf (now (s .entry))) 7 i field target range end) r ⌝ }
 {
     refs::check_enclave_range(s, ScopeImage::TABLE, i, field, target, range, end)
@@ -83,6 +83,7 @@ fn check_range(
 
 // The ranges of scopes and actions of row i.
 fn check_member_ranges(s: &TableStarts, i: u32, row: ScopeImage, ends: ScopeEnds) -> Outcome
+    requires { ⌜ Rising (now s) ⌝ }
     ensures { λ r. ⌜ Decides (memberRangeChecks (rowsOf (now (s .entry))) i row ends) r ⌝ }
 {
     let target = ScopeDescendant::TABLE;
@@ -107,6 +108,7 @@ fn check_member_ranges(s: &TableStarts, i: u32, row: ScopeImage, ends: ScopeEnds
 
 // The ranges of reactions of row i.
 fn check_reaction_ranges(s: &TableStarts, i: u32, row: ScopeImage, ends: ScopeEnds) -> Outcome
+    requires { ⌜ Rising (now s) ⌝ }
     ensures { λ r. ⌜ Decides (reactionRangeChecks (rowsOf (now (s .entry))) i row ends) r ⌝ }
 {
     let target = ScopeResetReaction::TABLE;
@@ -131,6 +133,7 @@ fn check_reaction_ranges(s: &TableStarts, i: u32, row: ScopeImage, ends: ScopeEn
 
 // The six ranges of row i against the running ends.
 fn check_scope_ranges(s: &TableStarts, i: u32, row: ScopeImage, ends: ScopeEnds) -> Outcome
+    requires { ⌜ Rising (now s) ⌝ }
     ensures { λ r. ⌜ Decides (scopeRangeChecks (rowsOf (now (s .entry))) i row ends) r ⌝ }
 {
     let a = check_member_ranges(s, i, row, ends);
@@ -142,6 +145,7 @@ fn check_scope_ranges(s: &TableStarts, i: u32, row: ScopeImage, ends: ScopeEnds)
 
 // The ends by value: moved on to the row's where its ranges pass.
 pub fn moved_ends(s: &TableStarts, i: u32, row: ScopeImage, ends: ScopeEnds) -> EndsAnswer
+    requires { ⌜ Rising (now s) ⌝ }
     ensures { λ r. ⌜ Moves (scopeRangeChecks (rowsOf (now (s .entry))) i row ends) row ends (r .ends) (r .answer) ⌝ }
 {
     let moved = ends_of(row);
@@ -157,7 +161,7 @@ pub fn moved_ends(s: &TableStarts, i: u32, row: ScopeImage, ends: ScopeEnds) -> 
 
 // The whole row by value: its references, then its ranges.
 pub fn moved_row(p: &[u8], s: &TableStarts, i: u32, row: ScopeImage, ends: ScopeEnds) -> EndsAnswer
-    requires { ⌜ Whole (now p) ⌝ }
+    requires { ⌜ Whole (now p) × (Rising (now s) × Within (now p) (now s)) ⌝ }
     ensures { λ r. ⌜ Moves (scopeRowChecks (image (now (p .entry)) [] [] (now (s .entry)) 0) i row ends) row ends (r .ends) (r .answer) ⌝ }
 {
     let owner = crate::owners::check_scope_owner(p, s, i, row);
@@ -178,7 +182,7 @@ pub fn check_scope_row(
     row: ScopeImage,
     ends: &mut ScopeEnds,
 ) -> Outcome
-    requires { ⌜ Whole (now p) ⌝ }
+    requires { ⌜ Whole (now p) × (Rising (now s) × Within (now p) (now s)) ⌝ }
     ensures { λ r. ⌜ Moves (scopeRowChecks (image (now (p .entry)) [] [] (now (s .entry)) 0) i row (now (ends .entry))) row (now (ends .entry)) (now (ends .exit)) r ⌝ }
 {
     let a = moved_row(p, s, i, row, *ends);
@@ -188,7 +192,7 @@ pub fn check_scope_row(
 
 // The same with plain parameters: it lends the ends to `check_scope_row`.
 fn row_by(p: &[u8], s: &TableStarts, i: u32, row: ScopeImage, ends: ScopeEnds) -> EndsAnswer
-    requires { ⌜ Whole (now p) ⌝ }
+    requires { ⌜ Whole (now p) × (Rising (now s) × Within (now p) (now s)) ⌝ }
     ensures { λ r. ⌜ Moves (scopeRowChecks (image (now (p .entry)) [] [] (now (s .entry)) 0) i row ends) row ends (r .ends) (r .answer) ⌝ }
 {
     let mut e = ends;
@@ -198,7 +202,7 @@ fn row_by(p: &[u8], s: &TableStarts, i: u32, row: ScopeImage, ends: ScopeEnds) -
 
 // Row i of the pack.
 pub fn scope_row_by(p: &[u8], s: &TableStarts, i: u32, ends: ScopeEnds) -> EndsAnswer
-    requires { ⌜ Whole (now p) ⌝ }
+    requires { ⌜ Whole (now p) × (Rising (now s) × Within (now p) (now s)) ⌝ }
     ensures { λ r. ⌜ Moves (scopeRowChecks (image (now (p .entry)) [] [] (now (s .entry)) 0) i (scopesAt (now (p .entry)) (now (s .entry)) i) ends) (scopesAt (now (p .entry)) (now (s .entry)) i) ends (r .ends) (r .answer) ⌝ }
 {
     let row = read::scope_at(p, refs::row_number(s, ScopeImage::TABLE, i));

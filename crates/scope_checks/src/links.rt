@@ -2,7 +2,7 @@
 ghost use mathlib.Core.Path.{_≡_};
 ghost use mathlib.Core.List.{[]};
 ghost use Rattle.answers.specs.Checks.{first, run};
-ghost use Rattle.checks.specs.Image.{image, rowsOf};
+ghost use Rattle.checks.specs.Image.{image, rowsOf, Rising, Within};
 ghost use Rattle.scope_checks.specs.Depths.{allParents};
 ghost use Rattle.scope_checks.specs.Links.{linksOf, parents, links, cycleChecks, parentsAnswer};
 ghost use Rattle.schema.specs.Rows.{Whole};
@@ -24,7 +24,7 @@ pub enum Parents {
 }
 
 pub fn parent_of(p: &[u8], s: &TableStarts, i: u32) -> MaybeScope
-    requires { ⌜ Whole (now p) ⌝ }
+    requires { ⌜ Whole (now p) × (Rising (now s) × Within (now p) (now s)) ⌝ }
     ensures { λ r. ⌜ r ≡ parents (image (now (p .entry)) [] [] (now (s .entry)) 0) i ⌝ }
 {
     parts::scope_parent_at(p, refs::row_number(s, ScopeImage::TABLE, i))
@@ -32,7 +32,7 @@ pub fn parent_of(p: &[u8], s: &TableStarts, i: u32) -> MaybeScope
 
 // The links of scope i: parents followed until none, or until as many as there are scopes.
 pub fn links_of(p: &[u8], s: &TableStarts, i: u32) -> u32
-    requires { ⌜ Whole (now p) ⌝ }
+    requires { ⌜ Whole (now p) × (Rising (now s) × Within (now p) (now s)) ⌝ }
     ensures { λ r. ⌜ r ≡ linksOf (parents (image (now (p .entry)) [] [] (now (s .entry)) 0)) (rowsOf (now (s .entry)) 7) i ⌝ }
 {
     let n = refs::rows_of(s, ScopeImage::TABLE);
@@ -51,7 +51,7 @@ pub fn links_of(p: &[u8], s: &TableStarts, i: u32) -> u32
 
 // The parents of every scope, each followed to the end.
 fn check_parents_plain(p: &[u8], s: &TableStarts) -> Parents
-    requires { ⌜ Whole (now p) ⌝ }
+    requires { ⌜ Whole (now p) × (Rising (now s) × Within (now p) (now s)) ⌝ }
     ensures { λ r. ⌜ r ≡ allParents (image (now (p .entry)) [] [] (now (s .entry)) 0) ⌝ }
 {
     let n = refs::rows_of(s, ScopeImage::TABLE);
@@ -70,7 +70,7 @@ fn check_parents_plain(p: &[u8], s: &TableStarts) -> Parents
 
 // The parents of every scope.
 pub fn check_parents(p: &[u8], s: &TableStarts) -> Parents
-    requires { ⌜ Whole (now p) ⌝ }
+    requires { ⌜ Whole (now p) × (Rising (now s) × Within (now p) (now s)) ⌝ }
     ensures { λ r. ⌜ r ≡ parentsAnswer (first (run (cycleChecks (image (now (p .entry)) [] [] (now (s .entry)) 0)) 0 (rowsOf (now (s .entry)) 7))) (links (image (now (p .entry)) [] [] (now (s .entry)) 0)) ⌝ }
 {
     let n = refs::rows_of(s, ScopeImage::TABLE);

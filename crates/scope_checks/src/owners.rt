@@ -4,7 +4,7 @@ ghost use mathlib.Core.Bool.{_&&_};
 ghost use mathlib.Core.List.{[]};
 ghost use lib.Dec.{eqb};
 ghost use Rattle.answers.specs.Checks.{Decides};
-ghost use Rattle.checks.specs.Image.{image, rowsOf, modesAt};
+ghost use Rattle.checks.specs.Image.{image, rowsOf, modesAt, Rising, Within};
 ghost use Rattle.scope_checks.specs.Scopes.{parentChecks, scopeModeChecks, scopeOwnerChecks};
 ghost use Rattle.schema.specs.Rows.{Whole};
 use answers::Outcome;
@@ -22,6 +22,7 @@ use schema::rows::ScopeImage;
 
 // The parent, where there is one, is there.
 pub fn check_parent(s: &TableStarts, i: u32, parent: MaybeScope) -> Outcome
+    requires { ⌜ Rising (now s) ⌝ }
     ensures { λ r. ⌜ Decides (parentChecks (rowsOf (now (s .entry))) i parent) r ⌝ }
 {
     let MaybeScope::Scope(scope) = parent else {
@@ -54,7 +55,7 @@ pub fn check_scope_mode(
     reactor: ReactorIndex,
     mode: MaybeMode,
 ) -> Outcome
-    requires { ⌜ Whole (now p) ⌝ }
+    requires { ⌜ Whole (now p) × (Rising (now s) × Within (now p) (now s)) ⌝ }
     ensures { λ r. ⌜ Decides (scopeModeChecks (rowsOf (now (s .entry))) (modesAt (now (p .entry)) (now (s .entry))) i (reactor .0) mode) r ⌝ }
 {
     let MaybeMode::Mode(key) = mode else {
@@ -76,7 +77,7 @@ pub fn check_scope_mode(
 
 // The references of row i, in order: reactor, parent, mode.
 pub fn check_scope_owner(p: &[u8], s: &TableStarts, i: u32, row: ScopeImage) -> Outcome
-    requires { ⌜ Whole (now p) ⌝ }
+    requires { ⌜ Whole (now p) × (Rising (now s) × Within (now p) (now s)) ⌝ }
     ensures { λ r. ⌜ Decides (scopeOwnerChecks (image (now (p .entry)) [] [] (now (s .entry)) 0) i row) r ⌝ }
 {
     let reactor = row.reactor;

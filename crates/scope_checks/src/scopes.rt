@@ -1,7 +1,7 @@
 // The rows of scopes, one after the other.
 ghost use mathlib.Core.List.{[]};
 ghost use Rattle.answers.specs.Checks.{run, Decides};
-ghost use Rattle.checks.specs.Image.{image, rowsOf};
+ghost use Rattle.checks.specs.Image.{image, rowsOf, Rising, Within};
 ghost use Rattle.scope_checks.specs.Scopes.{scopeChecks};
 ghost use Rattle.schema.specs.Rows.{Whole};
 use answers::Outcome;
@@ -11,7 +11,7 @@ use schema::rows::ScopeImage;
 
 // Every row of scopes, with the running ends.
 pub fn check_scopes(p: &[u8], s: &TableStarts) -> Outcome
-    requires { ⌜ Whole (now p) ⌝ }
+    requires { ⌜ Whole (now p) × (Rising (now s) × Within (now p) (now s)) ⌝ }
     ensures { λ r. ⌜ Decides (run (scopeChecks (image (now (p .entry)) [] [] (now (s .entry)) 0)) 0 (rowsOf (now (s .entry)) 7)) r ⌝ }
 {
     let n = refs::rows_of(s, ScopeImage::TABLE);

@@ -6,7 +6,7 @@ use Rattle.list_checks.proofs.level_lists.check_action_triggers.Tie as 
 
 returns : tie.Need-returns
 unfolding actionTriggerChecks
-returns c = rw (← c .before .before .row-number .ensures, ← c .before .action-triggers-at .ensures) (c .validate-levels .ensures)
+returns c = rw (← c .before .before .row-of .ensures .0, ← c .before .action-triggers-of .ensures) (c .validate-levels .ensures)
 
 pub check-action-triggers-spec : {M : Type 1} → statement M
 check-action-triggers-spec =

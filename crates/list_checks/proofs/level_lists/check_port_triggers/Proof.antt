@@ -6,7 +6,7 @@ use Rattle.list_checks.proofs.level_lists.check_port_triggers.Tie as ti
 
 returns : tie.Need-returns
 unfolding portTriggerChecks
-returns c = rw (← c .before .before .row-number .ensures, ← c .before .port-triggers-at .ensures) (c .validate-levels .ensures)
+returns c = rw (← c .before .before .row-of .ensures .0, ← c .before .port-triggers-of .ensures) (c .validate-levels .ensures)
 
 pub check-port-triggers-spec : {M : Type 1} → statement M
 check-port-triggers-spec =

@@ -11,19 +11,19 @@ use Rattle.list_checks.proofs.level_lists.check_scope_lists.Tie as tie
 returns : tie.Need-returns
 unfolding scopeListChecks
 returns c =
-    rw (← c .before .before .before .before .row-number .ensures, ← c .before .before .before .scope-reset-reactions-at .ensures)
+    rw (← c .before .before .before .before .row-of .ensures .0, ← c .before .before .before .scope-reset-reactions-of .ensures)
     (stopped _ (c .validate-levels .ensures) (c .before .before .levels-pass .ensures) (c .before .if1 .taken))
 
 returns-2 : tie.Need-returns-2
 unfolding scopeListChecks
 returns-2 c =
-    rw (← c .before .before .before .before .before .before .before .row-number .ensures, ← c .before .before .before .before .before .before .scope-reset-reactions-at .ensures, ← c .before .before .before .scope-startup-reactions-at .ensures)
+    rw (← c .before .before .before .before .before .before .before .row-of .ensures .0, ← c .before .before .before .before .before .before .scope-reset-reactions-of .ensures, ← c .before .before .before .scope-startup-reactions-of .ensures)
     (skip (surely (exactly (c .before .before .before .before .before .levels-pass .ensures)) (not-false _ (c .before .before .before .before .if1 .left))) refl (stop _ (c .before .before .validate-lifecycle .ensures) (c .enum-told2 .given .1)))
 
 returns-3 : tie.Need-returns-3
 unfolding scopeListChecks
 returns-3 c =
-    rw (← c .before .before .before .before .before .before .before .before .before .row-number .ensures, ← c .before .before .before .before .before .before .before .before .scope-reset-reactions-at .ensures, ← c .before .before .before .before .before .scope-startup-reactions-at .ensures, ← c .before .scope-shutdown-reactions-at .ensures)
+    rw (← c .before .before .before .before .before .before .before .before .before .row-of .ensures .0, ← c .before .before .before .before .before .before .before .before .scope-reset-reactions-of .ensures, ← c .before .before .before .before .before .scope-startup-reactions-of .ensures, ← c .before .scope-shutdown-reactions-of .ensures)
     (skip (surely (exactly (c .before .before .before .before .before .before .before .levels-pass .ensures)) (not-false _ (c .before .before .before .before .before .before .if1 .left))) refl
     (skip (c .before .before .before .before .validate-lifecycle .ensures) (c .before .before .enum-told .given .1) (c .validate-lifecycle2 .ensures)))
 

@@ -16,11 +16,11 @@ abbrev μ-loop : tie.MeasureT-loop
 
 returns : tie.Need-returns Inv-loop μ-loop
 unfolding enabledModesChecks
-returns c = rw (← c .before .before .before .before .before .before .before .row-number .ensures, ← c .before .before .before .before .before .before .reaction-reactor-at .ensures, ← c .before .before .before .before .before .reaction-enabled-modes-at .ensures) (search loop-laws)
+returns c = rw (← c .before .before .before .before .before .before .before .row-of .ensures .0, ← c .before .before .before .before .before .before .reaction-reactor-of .ensures, ← c .before .before .before .before .before .reaction-enabled-modes-of .ensures) (search loop-laws)
 
 returns-2 : tie.Need-returns-2 Inv-loop μ-loop
 unfolding enabledModesChecks
-returns-2 c = rw (← c .before .before .before .before .row-number .ensures, ← c .before .before .before .reaction-reactor-at .ensures, ← c .before .before .reaction-enabled-modes-at .ensures) (search loop-laws)
+returns-2 c = rw (← c .before .before .before .before .row-of .ensures .0, ← c .before .before .before .reaction-reactor-of .ensures, ← c .before .before .reaction-enabled-modes-of .ensures) (search loop-laws)
 
 pub check-enabled-modes-spec : {M : Type 1} → statement M
 check-enabled-modes-spec =

@@ -14,4 +14,4 @@ triggers-end-before-spec =
     (λ c κs. search needs)
     (λ c κs. search needs)
     (λ c κs. search needs)
-    (λ c. rw (ne-eqb _ _ (c .before .before .before .before .if1 .left), ← c .before .before .before .row-number .ensures, ← c .before .before .port-triggers-at .ensures, ← c .before .span .ensures .0, ← c .before .span .ensures .1) (c .saturating-end .ensures)))
+    (λ c. rw (ne-eqb _ _ (c .before .before .before .before .if1 .left), ← c .before .before .before .row-of .ensures .0, ← c .before .before .port-triggers-of .ensures, ← c .before .span .ensures .0, ← c .before .span .ensures .1) (c .saturating-end .ensures)))

@@ -7,12 +7,12 @@ use Rattle.row_checks.proofs.reaction_rows.effect_passes.Statement.{sta
 use Rattle.row_checks.proofs.reaction_rows.effect_passes.Tie as tie
 
 returns : tie.Need-returns
-returns c = rw (← c .before .before .before .row-number .ensures, ← c .before .before .reaction-mode-effect-at .ensures, c .enum-told .given .1) (sure (λ e. none))
+returns c = rw (← c .before .before .before .row-of .ensures .0, ← c .before .before .reaction-mode-effect-of .ensures, c .enum-told .given .1) (sure (λ e. none))
 
-returns-4 : tie.Need-returns-4
-returns-4 c =
-    rw (← c .before .before .before .before .before .before .before .before .before .before .before .before .before .before .row-number .ensures, ← c .before .before .before .before .before .before .before .before .before .before .before .before .before .reaction-mode-effect-at .ensures, c .before .before .before .before .before .before .before .before .before .before .before .effect .given .1, ← c .before .before .before .before .before .before .before .before .rows-of .ensures, ← c .before .before .before .before .before .reaction-reactor-at .ensures, ← c .before .before .before .before .row-number2 .ensures, ← c .before .before .mode-reactor-at .ensures)
-    (sure (λ e. pass (lt-ltb _ _ (c .before .before .before .before .before .before .if1 .left)) (pass e none)))
+returns-3 : tie.Need-returns-3
+returns-3 c =
+    rw (← c .before .before .before .before .before .before .before .before .before .before .before .before .before .row-of .ensures .0, ← c .before .before .before .before .before .before .before .before .before .before .before .before .reaction-mode-effect-of .ensures, c .before .before .before .before .before .before .before .before .before .before .effect .given .1, ← c .before .before .before .before .before .before .before .rows-of .ensures, ← c .before .before .before .before .reaction-reactor-of .ensures, ← c .before .before .before .row-of2 .ensures .0, ← c .before .before .mode-reactor-of .ensures)
+    (sure (λ e. pass (lt-ltb _ _ (c .before .before .before .before .before .if1 .left)) (pass e none)))
 
 pub effect-passes-spec : {M : Type 1} → statement M
 effect-passes-spec =
@@ -27,6 +27,5 @@ effect-passes-spec =
     (λ c. unsure)
     (λ c κs. search needs)
     (λ c κs. search needs)
-    (λ c. unsure)
     (λ c κs. search needs)
-    returns-4)
+    returns-3)

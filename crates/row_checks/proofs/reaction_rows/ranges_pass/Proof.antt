@@ -1,5 +1,6 @@
 -- `row_checks::reaction_rows::ranges_pass` meets its contract. Assumes nothing.
 use mathlib.Core.Path.{refl}
+use native.Mathlib.Omega.{arith}
 use borrow.Author.Tests.{ne-eqb}
 use denote.Ref.{now}
 use Rattle.answers.specs.Fields as field
@@ -12,13 +13,13 @@ use borrow.Author.Needs.{needs}
 use Rattle.row_checks.proofs.reaction_rows.ranges_pass.Statement.{statement}
 use Rattle.row_checks.proofs.reaction_rows.ranges_pass.Tie as tie
 
-returns-3 : tie.Need-returns-3
+returns-2 : tie.Need-returns-2
 unfolding reactionEndsBefore
-returns-3 c =
-    let a = c .before .before .before .before .before .before .before .before .before .before .before .before .before .before .before .before .before .before .before .before .before .args in
+returns-2 c =
+    let a = c .before .before .before .before .before .before .before .before .before .before .before .before .before .before .before .before .before .before .before .before .args in
     let rows = rowsOf (now (a .s)) in
     let i = a .i in
-    rw (ne-eqb _ _ (c .before .before .before .before .before .before .before .before .before .before .before .before .before .before .before .before .before .before .before .if1 .left), ← c .before .before .before .before .before .before .before .before .before .before .before .before .before .before .before .before .before .before .row-number .ensures, ← c .before .before .before .before .before .before .before .before .before .before .before .before .before .before .before .before .before .row-number2 .ensures, ← c .before .before .before .before .before .before .before .before .before .before .before .before .before .before .before .reaction-use-ports-at .ensures, ← c .before .before .before .before .before .before .before .before .before .before .before .before .before .before .reaction-use-ports-at2 .ensures, ← c .before .before .before .before .before .before .before .before .before .before .before .reaction-effect-ports-at .ensures, ← c .before .before .before .before .before .before .before .before .before .before .reaction-effect-ports-at2 .ensures, ← c .before .before .before .before .before .before .before .reaction-actions-at .ensures, ← c .before .before .before .before .before .before .reaction-actions-at2 .ensures, ← c .before .before .before .reaction-enabled-modes-at .ensures, ← c .before .before .reaction-enabled-modes-at2 .ensures)
+    rw (ne-eqb _ _ (c .before .before .before .before .before .before .before .before .before .before .before .before .before .before .before .before .before .before .if1 .left), ← c .before .before .before .before .before .before .before .before .before .before .before .before .before .before .before .before .before .row-of .ensures .0, ← c .before .before .before .before .before .before .before .before .before .before .before .before .before .before .before .before .row-of2 .ensures .0, ← c .before .before .before .before .before .before .before .before .before .before .before .before .before .before .before .reaction-use-ports-of .ensures, ← c .before .before .before .before .before .before .before .before .before .before .before .before .before .before .reaction-use-ports-of2 .ensures, ← c .before .before .before .before .before .before .before .before .before .before .before .reaction-effect-ports-of .ensures, ← c .before .before .before .before .before .before .before .before .before .before .reaction-effect-ports-of2 .ensures, ← c .before .before .before .before .before .before .before .reaction-actions-of .ensures, ← c .before .before .before .before .before .before .reaction-actions-of2 .ensures, ← c .before .before .before .reaction-enabled-modes-of .ensures, ← c .before .before .reaction-enabled-modes-of2 .ensures)
     (sure (λ e.
     let h = both _ _ e in
     let x = both _ _ (h .0) in
@@ -36,7 +37,6 @@ ranges-pass-spec =
     (λ c κs. search needs)
     (λ c. search needs)
     (λ c κs. search needs)
-    (λ c. unsure)
     (λ c κs. search needs)
     (λ c κs. search needs)
     (λ c κs. search needs)
@@ -45,12 +45,12 @@ ranges-pass-spec =
     (λ c κs. search needs)
     (λ c κs. search needs)
     (λ c κs. search needs)
+    (λ c κs. omega (arith, c .before .before .before .before .before .before .before .before .before .row-of .ensures .1, c .before .before .before .before .before .before .before .before .before .before .before .before .pre .1 .0))
+    (λ c κs. omega (arith, c .before .before .before .before .before .before .before .before .before .row-of2 .ensures .1, c .before .before .before .before .before .before .before .before .before .before .before .before .before .pre .1 .0))
+    (λ c κs. (c .before .before .before .before .before .before .before .before .before .before .before .before .before .before .pre .0, omega arith))
     (λ c κs. search needs)
+    (λ c κs. omega (arith, c .before .before .before .before .before .before .before .before .before .before .before .before .before .row-of .ensures .1, c .before .before .before .before .before .before .before .before .before .before .before .before .before .before .before .before .pre .1 .0))
+    (λ c κs. omega (arith, c .before .before .before .before .before .before .before .before .before .before .before .before .before .row-of2 .ensures .1, c .before .before .before .before .before .before .before .before .before .before .before .before .before .before .before .before .before .pre .1 .0))
+    (λ c κs. (c .before .before .before .before .before .before .before .before .before .before .before .before .before .before .before .before .before .before .pre .0, omega arith))
     (λ c κs. search needs)
-    (λ c κs. search needs)
-    (λ c κs. search needs)
-    (λ c κs. c .before .before .before .before .before .before .before .before .before .before .before .before .before .before .before .before .before .pre)
-    (λ c κs. c .before .before .before .before .before .before .before .before .before .before .before .before .before .before .before .before .before .before .pre)
-    (λ c κs. search needs)
-    (λ c κs. search needs)
-    returns-3)
+    returns-2)

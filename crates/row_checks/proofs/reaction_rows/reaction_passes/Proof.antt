@@ -8,12 +8,12 @@ use borrow.Author.Needs.{needs}
 use Rattle.row_checks.proofs.reaction_rows.reaction_passes.Statement.{statement}
 use Rattle.row_checks.proofs.reaction_rows.reaction_passes.Tie as tie
 
-returns-4 : tie.Need-returns-4
+returns-3 : tie.Need-returns-3
 unfolding reactionChecks
-returns-4 c =
+returns-3 c =
     sure (λ e.
-    skip (surely (c .before .before .before .before .owner-passes .ensures) (not-false _ (c .before .before .before .if2 .left))) refl
-    (skip (surely (c .before .before .effect-passes .ensures) (not-false _ (c .before .if3 .left))) refl
+    skip (surely (c .before .before .before .before .owner-passes .ensures) (not-false _ (c .before .before .before .if1 .left))) refl
+    (skip (surely (c .before .before .effect-passes .ensures) (not-false _ (c .before .if2 .left))) refl
     (surely (c .ranges-pass .ensures) e)))
 
 pub reaction-passes-spec : {M : Type 1} → statement M
@@ -25,6 +25,4 @@ reaction-passes-spec =
     (λ c κs. search needs)
     (λ c. unsure)
     (λ c κs. search needs)
-    (λ c. unsure)
-    (λ c κs. search needs)
-    returns-4)
+    returns-3)

@@ -11,7 +11,7 @@ returns c = simp (eq-eqb _ _ (c .if1 .taken))
 
 returns-2 : tie.Need-returns-2
 unfolding reactionEndsBefore
-returns-2 c = simp (ne-eqb _ _ (c .before .before .before .before .before .before .before .before .before .if1 .left), c .saturating-end4 .ensures, c .before .saturating-end3 .ensures, c .before .before .saturating-end2 .ensures, c .before .before .before .saturating-end .ensures, c .before .before .before .before .reaction-enabled-modes-at .ensures, c .before .before .before .before .before .reaction-actions-at .ensures, c .before .before .before .before .before .before .reaction-effect-ports-at .ensures, c .before .before .before .before .before .before .before .reaction-use-ports-at .ensures, c .before .before .before .before .before .before .before .before .row-number .ensures)
+returns-2 c = simp (ne-eqb _ _ (c .before .before .before .before .before .before .before .before .before .if1 .left), c .saturating-end4 .ensures, c .before .saturating-end3 .ensures, c .before .before .saturating-end2 .ensures, c .before .before .before .saturating-end .ensures, c .before .before .before .before .reaction-enabled-modes-of .ensures, c .before .before .before .before .before .reaction-actions-of .ensures, c .before .before .before .before .before .before .reaction-effect-ports-of .ensures, c .before .before .before .before .before .before .before .reaction-use-ports-of .ensures, c .before .before .before .before .before .before .before .before .row-of .ensures .0)
 
 pub ends-before-spec : {M : Type 1} → statement M
 ends-before-spec =

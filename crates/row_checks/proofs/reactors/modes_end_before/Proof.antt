@@ -13,4 +13,4 @@ modes-end-before-spec =
     (λ c κs. search needs)
     (λ c κs. search needs)
     (λ c κs. search needs)
-    (λ c. rw (ne-eqb _ _ (c .before .before .before .before .if1 .left), ← c .before .before .before .row-number .ensures, ← c .before .before .reactor-modes-at .ensures) (c .saturating-end .ensures)))
+    (λ c. rw (ne-eqb _ _ (c .before .before .before .before .if1 .left), ← c .before .before .before .row-of .ensures .0, ← c .before .before .reactor-modes-of .ensures) (c .saturating-end .ensures)))

@@ -9,9 +9,9 @@ own-root-spec =
     tie.close
     (tie.spec
     (λ c κs. search needs)
-    (λ c. rw (← c .before .before .scope-reactor-at .ensures, ne-eqb _ _ (c .if1 .taken)))
+    (λ c. rw (← c .before .before .scope-reactor-of .ensures, ne-eqb _ _ (c .if1 .taken)))
     (λ c κs. search needs)
     (λ c. search needs)
     (λ c. search needs)
-    (λ c. rw (← c .before .before .before .before .before .scope-reactor-at .ensures, ← c .before .before .scope-mode-at .ensures, eq-eqb _ _ (c .before .before .before .if1 .left), c .enum-told .given .1))
-    (λ c. rw (← c .before .before .before .before .before .scope-reactor-at .ensures, ← c .before .before .scope-mode-at .ensures, eq-eqb _ _ (c .before .before .before .if1 .left), c .enum-told2 .given .1)))
+    (λ c. rw (← c .before .before .before .before .before .scope-reactor-of .ensures, ← c .before .before .scope-mode-of .ensures, eq-eqb _ _ (c .before .before .before .if1 .left), c .enum-told .given .1))
+    (λ c. rw (← c .before .before .before .before .before .scope-reactor-of .ensures, ← c .before .before .scope-mode-of .ensures, eq-eqb _ _ (c .before .before .before .if1 .left), c .enum-told2 .given .1)))

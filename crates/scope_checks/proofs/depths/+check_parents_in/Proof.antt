@@ -38,7 +38,7 @@ pub +check-parents-in-spec : {M : Type 1} → statement M
     (λ c κs. search needs)
     (λ c. search needs)
     (λ c. search needs)
-    (λ c κs. (omega arith, (search needs, known-none _ 65536)))
+    (λ c κs. (omega arith, (search needs, (search needs, (search needs, known-none _ 65536)))))
     (λ c. search needs)
     (λ c κs. search needs)
     (λ c. search needs)

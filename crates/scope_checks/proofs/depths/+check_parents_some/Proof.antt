@@ -28,7 +28,7 @@ pub +check-parents-some-spec : {M : Type 1} → statement M
     (at-measure t)
     reads.Post
     (λ c. search needs)
-    (λ c κs. (omega arith, (search needs, known-none _ 4096)))
+    (λ c κs. (omega arith, (search needs, (search needs, (search needs, known-none _ 4096)))))
     (λ c. search needs)
     (λ c κs. search needs)
     (λ c. search needs)

@@ -24,12 +24,12 @@ check-parents-by-spec =
     Inv-loop
     μ-loop
     (λ c κs. search needs)
-    (λ c. (refl, c .before .before .before .pre .1, summed-start _))
+    (λ c. (refl, c .before .before .before .pre .1 .1 .1, summed-start _))
     (λ c κs. search needs)
     (λ c. search needs)
     (λ c. summed-cycle (c .before .before .before .before .loop .inv .2) (omega arith) (c .before .links-by .ensures) (omega arith))
     (λ c. omega arith)
-    (λ c κs. (search needs, search needs))
+    (λ c κs. (c .before .before .before .before .before .before .before .before .before .pre .0, (c .before .before .before .before .before .before .before .before .before .pre .1 .0, (c .before .before .before .before .before .before .before .before .before .pre .1 .1 .0, search needs))))
     (λ c. search needs)
     (λ c. let h = summed-fits (c .before .before .before .before .before .before .before .before .loop .inv .2) (omega arith) (c .before .before .before .before .before .links-by .ensures) (omega arith) in search needs)
     (λ c. omega arith)

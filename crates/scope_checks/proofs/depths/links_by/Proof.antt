@@ -28,7 +28,7 @@ links-by-spec =
     (λ c κs. search needs)
     (λ c. search needs)
     (λ c κs. search needs)
-    (λ c. walked-known (c .before .before .before .before .before .before .before .before .pre .1) (rw (c .before .before .before .before .before .rows-of .ensures) at (c .before .before .before .before .loop .inv)) (c .before .before .depth-of .ensures) (c .before .if1 .taken) (rw (c .before .before .before .before .before .rows-of .ensures) at (c .joined .ensures)))
+    (λ c. walked-known (c .before .before .before .before .before .before .before .before .pre .1 .1 .1) (rw (c .before .before .before .before .before .rows-of .ensures) at (c .before .before .before .before .loop .inv)) (c .before .before .depth-of .ensures) (c .before .if1 .taken) (rw (c .before .before .before .before .before .rows-of .ensures) at (c .joined .ensures)))
     (λ c κs. search needs)
     (λ c. search needs)
     (λ c. search needs)

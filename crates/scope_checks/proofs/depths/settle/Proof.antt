@@ -23,7 +23,7 @@ settle-spec =
     (tie.spec
     Inv-loop
     μ-loop
-    (λ c. (refl, omega arith, c .before .before .pre .1))
+    (λ c. (refl, omega arith, c .before .before .pre .1 .1 .1))
     (λ c. search needs)
     (λ c. search needs)
     (λ c. search needs)

@@ -43,7 +43,7 @@ use denote.Triple.Spec.{Meets, tripleOf}
 use denote.Triple.Table.{entered, cited}
 use denote.Triple.Walked.{says, needs, Stays, stay-ref, stay-none, stay-none-ref, stay-none-slice, walkOf, AllGo, goes-none, goes-none-ref, goes-none-slice, goes-ref, Walks, ends-at, walked, walk-meets}
 use Rattle.schema.specs.Rows.{Whole}
-use Rattle.checks.specs.Image.{image}
+use Rattle.checks.specs.Image.{image, Rising, Within}
 use Rattle.scope_checks.specs.Ends.{Moves}
 use Rattle.scope_checks.specs.Scopes.{scopeRowChecks}
 use Rattle.answers.specs.declared.Outcome.{Outcome}
@@ -145,19 +145,19 @@ module _ {M : Type 1} (𝓤 : URA M) (H : Heap 𝓤) (A : Atoms 𝓤) (W : Given
   abbrev to : Core 𝓤 H A at-mem run .Ghost
   to = (((κp, (κs, tt)), (qp, (qs, tt)), tt, (p, (s, (i, (w, (h, tt))))), (vp ∷ [], (vs ∷ [], (vint w32 i ∷ [], (vw ∷ [], (ve h ∷ [], tt)))))), tt)
 
-  goes-in : Whole (now p) → Is u32 i (vint w32 i ∷ []) → Is R.the-row w (vw ∷ []) → Is E.the-row h (ve h ∷ []) → ent 𝓤 (⋆ 𝓤 H A (Toks ∷ ‵ OwnP ∷ ‵ OwnS ∷ [])) (Core 𝓤 H A at-mem run .pre to)
-  goes-in whole-records isi isw ish =
+  goes-in : Whole (now p) × (Rising (now s) × Within (now p) (now s)) → Is u32 i (vint w32 i ∷ []) → Is R.the-row w (vw ∷ []) → Is E.the-row h (ve h ∷ []) → ent 𝓤 (⋆ 𝓤 H A (Toks ∷ ‵ OwnP ∷ ‵ OwnS ∷ [])) (Core 𝓤 H A at-mem run .pre to)
+  goes-in asked isi isw ish =
       qed W (Toks ∷ ‵ OwnP ∷ ‵ OwnS ∷ []) ∵
-      says ! whole-records $ nothing ! $ owned ! E.the-row (Is E.the-row) (LL.makes E.the-type E′.the-plain 𝓤 H A) h _ ish $ fjoin ! $ owned ! R.the-row (Is R.the-row) (LL.makes R.the-type R′.the-plain 𝓤 H A) w _ isw $ fjoin ! $
+      says ! asked $ nothing ! $ owned ! E.the-row (Is E.the-row) (LL.makes E.the-type E′.the-plain 𝓤 H A) h _ ish $ fjoin ! $ owned ! R.the-row (Is R.the-row) (LL.makes R.the-type R′.the-plain 𝓤 H A) w _ isw $ fjoin ! $
       owned ! u32 (Is u32) (uint-makes 𝓤 H A W w32) i _ isi $ fjoin ! $ move ! (3 ∷ 0 ∷ []) $ fjoin ! $ move ! (2 ∷ 0 ∷ []) $ fjoin ! $ move ! (1 ∷ 0 ∷ []) $ frame ! $ done !
 
   said : (r : EndsAnswer) → ent 𝓤 (ensured 𝓤 H A core.ended (core.clauses 𝓤 H A at-mem run) (κp, (κs, tt)) (p, (s, (i, (w, (h, tt))))) tt r) (fact 𝓤 (Said (r .answer) (r .ends)))
   said r = exE 𝓤 _ (λ ws. snd∗ 𝓤 (sem 𝓤 H A (lasts core.ended (κp, (κs, tt)) (p, (s, (i, (w, (h, tt))))) ws)) (fact 𝓤 (Said (r .answer) (r .ends))))
 
   module _ (C : Calls 𝓤 H) (Λ : Loops 𝓤 H) (fm : FmC 𝓤 H (W .laws) C) (known : Triple 𝓤 (C #moved-row) (Core 𝓤 H A at-mem run)) where
-    walk : Whole (now p) → Is (ShrSlice (named 0) κp u8) p (vp ∷ []) → Is u32 i (vint w32 i ∷ []) → Is R.the-row w (vw ∷ [])
+    walk : Whole (now p) × (Rising (now s) × Within (now p) (now s)) → Is (ShrSlice (named 0) κp u8) p (vp ∷ []) → Is u32 i (vint w32 i ∷ []) → Is R.the-row w (vw ∷ [])
         → ent 𝓤 (onEntry 𝓤 H A thin.signature (κp, (κs, (κ, tt))) (qp, (qs, (q, tt))) x at) (WpFn 𝓤 H C Λ code.function (vp ∷ vs ∷ vint w32 i ∷ vw ∷ vptr b o ∷ []) Post)
-    walk whole-records isp isi isw =
+    walk asked isp isi isw =
         qed W ((‵ (flft κp qp) ⊛ ‵ (flft κs qs) ⊛ ‵ (flft κ q) ⊛ ‵ ftrue) ∷ ‵ (owns (ShrSlice (named 0) κp u8 ∷ ShrRef (named 1) κs Starts ∷ u32 ∷ R.the-row ∷ MutRef (named 2) κ E.the-row ∷ []) x at) ∷ []) ∵
         split ! $ move ! (1 ∷ []) $ split ! $ move ! (1 ∷ []) $ split ! $ move ! (1 ∷ []) $ drop ! $
         -- [the ends' token; the starts'; the pack's; what the parameters own]
@@ -176,7 +176,7 @@ module _ {M : Type 1} (𝓤 : URA M) (H : Heap 𝓤) (A : Atoms 𝓤) (W : Given
         move ! (1 ∷ []) $ peeks ! E.the-row (Is E.the-row) (shows 𝓤 H A E.the-row) h (LL.vals E.the-type E′.the-laws h) (λ was. move ! (1 ∷ 0 ∷ []) $
         -- [the ends' cell; what they own; the open borrow; obs; auth; _7; …; _0; …; tokens; the pack; the starts; the pack; the starts]
         assigns ! (of-opd ! (load ! (from ! (hop ! (look ! 9 refl) (stop !))) (look-in ! 0 (whole !)))) (from ! (stop !)) (init ! 5 refl (LL.lawful E.the-type E′.the-laws 𝓤 H A W .typed h _ was .0)) $
-        move ! (21 ∷ 22 ∷ 23 ∷ []) $ use3 W (raw (Core 𝓤 H A at-mem run .pre to)) (goes-in whole-records isi isw was) $
+        move ! (21 ∷ 22 ∷ 23 ∷ []) $ use3 W (raw (Core 𝓤 H A at-mem run .pre to)) (goes-in asked isi isw was) $
         calls-at ! fm (Core 𝓤 H A at-mem run) known to (and-then ! (load ! (from ! (stop !)) (look ! 18 refl)) (and-then ! (load ! (from ! (stop !)) (look ! 16 refl)) (and-then ! (load ! (from ! (stop !)) (look ! 14 refl)) (and-then ! (load ! (from ! (stop !)) (look ! 12 refl)) (and-then ! (load ! (from ! (stop !)) (look ! 6 refl)) (no-more !)))))) (λ u.
         use1 W (later (some (λ (r : EndsAnswer). (Toks ⊛ ‵ (N.the-row .own r (u ∷ []))) ⊛ raw (ensured 𝓤 H A core.ended (core.clauses 𝓤 H A at-mem run) (κp, (κs, tt)) (p, (s, (i, (w, (h, tt))))) tt r)))) (id⊢ 𝓤 _) $ await ! tt $ pick ! (λ r.
         split ! $ move ! (1 ∷ []) $ use1 W (raw (fact 𝓤 (Said (r .answer) (r .ends)))) (said r) $ heard ! (Said (r .answer) (r .ends)) (λ e. split ! $ move ! (1 ∷ []) $
@@ -197,7 +197,7 @@ module _ {M : Type 1} (𝓤 : URA M) (H : Heap 𝓤) (A : Atoms 𝓤) (W : Given
       → Walks 𝓤 H A thin.ended stayed (WpFn 𝓤 H C Λ code.function) (thin.clauses 𝓤 H A at-mem run)
   thin-walks C Λ fm known = walked 𝓤 H A thin.ended stayed (thin.clauses 𝓤 H A at-mem run) (WpFn 𝓤 H C Λ code.function) (λ κs. (slice-vals, (ptr-vals, (uint-vals w32, (LL.vals R.the-type R′.the-laws, (ptr-vals, tt))))))
       (λ κs. (shr-slice-tells (named 0) (κs .0) u8, (shr-tells (named 1) (κs .1 .0) Starts, (uint-tells w32, (LL.tells R.the-type R′.the-laws, (mut-tells (named 2) (κs .1 .1 .0) E.the-row, tt))))))
-      (λ κs qs bounds a g are. needs 𝓤 (Whole (now (a .0))) _ (λ whole-records. walk 𝓤 H A W at-mem run (κs .0) (κs .1 .0) (κs .1 .1 .0) (qs .0) (qs .1 .0) (qs .1 .1 .0) (a .0) (a .1 .0) (a .1 .1 .0) (a .1 .1 .1 .0) (a .1 .1 .1 .1 .0 .ptr .0) (a .1 .1 .1 .1 .0 .ptr .1) (a .1 .1 .1 .1 .0 .name) (a .1 .1 .1 .1 .0 .now) C Λ fm known whole-records (are .0) (are .1 .1 .0) (are .1 .1 .1 .0)))
+      (λ κs qs bounds a g are. needs 𝓤 (Whole (now (a .0)) × (Rising (now (a .1 .0)) × Within (now (a .0)) (now (a .1 .0)))) _ (λ asked. walk 𝓤 H A W at-mem run (κs .0) (κs .1 .0) (κs .1 .1 .0) (qs .0) (qs .1 .0) (qs .1 .1 .0) (a .0) (a .1 .0) (a .1 .1 .0) (a .1 .1 .1 .0) (a .1 .1 .1 .1 .0 .ptr .0) (a .1 .1 .1 .1 .0 .ptr .1) (a .1 .1 .1 .1 .0 .name) (a .1 .1 .1 .1 .0 .now) C Λ fm known asked (are .0) (are .1 .1 .0) (are .1 .1 .1 .0)))
 
   goes : AllGo 𝓤 H A W 3 (thin.signature .params) (thin.ended .kept) stayed
   goes = (goes-none-slice 𝓤 H A W 3 (0 ∷ []) tt (plain (λ _. u8)) yes, (goes-none-ref 𝓤 H A W 3 (1 ∷ []) tt (plain (λ _. Starts)) yes, (goes-none 𝓤 H A W 3 (λ _. u32) yes (λ κs x f. refl), (goes-none 𝓤 H A W 3 (λ _. R.the-row) yes (λ κs x f. refl), (goes-ref 𝓤 H A W 3 2 tt (plain (λ _. E.the-row)), tt)))))

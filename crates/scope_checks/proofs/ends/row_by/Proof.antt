@@ -45,7 +45,7 @@ use denote.Triple.Spec.{Meets, tripleOf}
 use denote.Triple.Table.{entered, cited}
 use denote.Triple.Walked.{says, needs, Stays, stay-none, stay-none-ref, stay-none-slice, walkOf, AllGo, goes-none, goes-none-ref, goes-none-slice, Walks, ends-at, walked, walk-meets}
 use Rattle.schema.specs.Rows.{Whole}
-use Rattle.checks.specs.Image.{image}
+use Rattle.checks.specs.Image.{image, Rising, Within}
 use Rattle.scope_checks.specs.Ends.{Moves}
 use Rattle.scope_checks.specs.Scopes.{scopeRowChecks}
 use Rattle.answers.specs.declared.Outcome.{Outcome}
@@ -170,11 +170,11 @@ module _ {M : Type 1} (𝓤 : URA M) (H : Heap 𝓤) (A : Atoms 𝓤) (W : Given
   abbrev to : ℕ → ℕ → GName → Thin 𝓤 H A at-mem run .Ghost
   to ν l γ = (((κp, (κs, (ν ∷ [], tt))), (qp, (qs, (fullShare, tt))), tt, (p, (s, (i, (w, (lent l γ, tt))))), (vp ∷ [], (vs ∷ [], (vint w32 i ∷ [], (vw ∷ [], (vptr l 0 ∷ [], tt)))))), tt)
 
-  goes-in : Whole (now p) → Is u32 i (vint w32 i ∷ []) → Is R.the-row w (vw ∷ []) → (ν l : ℕ) (γ : GName)
+  goes-in : Whole (now p) × (Rising (now s) × Within (now p) (now s)) → Is u32 i (vint w32 i ∷ []) → Is R.the-row w (vw ∷ []) → (ν l : ℕ) (γ : GName)
       → ent 𝓤 (⋆ 𝓤 H A ((‵ (flft (ν ∷ []) fullShare) ⊛ Toks) ∷ ‵ (Lent ν l γ) ∷ (‵ OwnP ⊛ ‵ OwnS) ∷ [])) (Thin 𝓤 H A at-mem run .pre (to ν l γ))
-  goes-in whole-records isi isw ν l γ =
+  goes-in asked isi isw ν l γ =
       qed W ((‵ (flft (ν ∷ []) fullShare) ⊛ Toks) ∷ ‵ (Lent ν l γ) ∷ (‵ OwnP ⊛ ‵ OwnS) ∷ []) ∵
-      says ! whole-records $ nothing ! $ move ! (2 ∷ 0 ∷ []) $ fjoin ! $ owned ! R.the-row (Is R.the-row) (LL.makes R.the-type R′.the-plain 𝓤 H A) w _ isw $ fjoin ! $ owned ! u32 (Is u32) (uint-makes 𝓤 H A W w32) i _ isi $ fjoin ! $
+      says ! asked $ nothing ! $ move ! (2 ∷ 0 ∷ []) $ fjoin ! $ owned ! R.the-row (Is R.the-row) (LL.makes R.the-type R′.the-plain 𝓤 H A) w _ isw $ fjoin ! $ owned ! u32 (Is u32) (uint-makes 𝓤 H A W w32) i _ isi $ fjoin ! $
       -- [what the number, the row and the reference own; the tokens; the pack and the starts]
       move ! (2 ∷ []) $ split ! $ move ! (1 ∷ 2 ∷ []) $ fjoin ! $ move ! (1 ∷ 0 ∷ []) $ fjoin ! $
       move ! (1 ∷ []) $ split ! $ move ! (1 ∷ []) $ split ! $ move ! (1 ∷ []) $ split ! $ move ! (3 ∷ 1 ∷ []) $ join ! $ move ! (1 ∷ 0 ∷ []) $ join ! $ move ! (1 ∷ 0 ∷ []) $ join ! $
@@ -191,9 +191,9 @@ module _ {M : Type 1} (𝓤 : URA M) (H : Heap 𝓤) (A : Atoms 𝓤) (W : Given
   Lasts = Unit {0} × (Unit {0} × (Unit {0} × (Unit {0} × (ScopeEnds × Unit {0}))))
 
   module _ (C : Calls 𝓤 H) (Λ : Loops 𝓤 H) (fm : FmC 𝓤 H (W .laws) C) (known : Triple 𝓤 (C #check-scope-row) (Thin 𝓤 H A at-mem run)) where
-    walk : Whole (now p) → Is (ShrSlice (named 0) κp u8) p (vp ∷ []) → Is u32 i (vint w32 i ∷ []) → Is R.the-row w (vw ∷ []) → Is E.the-row h (ve h ∷ [])
+    walk : Whole (now p) × (Rising (now s) × Within (now p) (now s)) → Is (ShrSlice (named 0) κp u8) p (vp ∷ []) → Is u32 i (vint w32 i ∷ []) → Is R.the-row w (vw ∷ []) → Is E.the-row h (ve h ∷ [])
         → ent 𝓤 (onEntry 𝓤 H A outer.signature (κp, (κs, tt)) (qp, (qs, tt)) x at) (WpFn 𝓤 H C Λ code.function (vp ∷ vs ∷ vint w32 i ∷ vw ∷ ve h ∷ []) Post)
-    walk whole-records isp isi isw ish =
+    walk asked isp isi isw ish =
         qed W (Toks ∷ ‵ (owns (ShrSlice (named 0) κp u8 ∷ ShrRef (named 1) κs Starts ∷ u32 ∷ R.the-row ∷ E.the-row ∷ []) x at) ∷ []) ∵
         move ! (1 ∷ []) $ fsplit ! $ move ! (1 ∷ []) $ fsplit ! $ move ! (1 ∷ []) $ drop ! $
         use1 W (‵ OwnS ⊛ ‵ OwnS) (shr-copy 𝓤 H A W (named 1) κs Starts .twice s (vs ∷ [])) $ split ! $
@@ -208,7 +208,7 @@ module _ {M : Type 1} (𝓤 : URA M) (H : Heap 𝓤) (A : Atoms 𝓤) (W : Given
         -- the local is lent for a lifetime ν of the call
         lft-new ! tt (λ ν. move ! (7 ∷ []) $ use1 W (‵ (mem E.the-row .lies h l₆ 0)) (lies-in 𝓤 H A W h l₆ ish) $
         use1 W (later (some (λ (γ : GName). ‵ (Lent ν l₆ γ) ⊛ ‵ (flent (ν ∷ []) (Body (mem E.the-row) l₆ 0 γ))))) (lends-ref 𝓤 H A W E.the-row (named 2) (ν ∷ []) h l₆ 0) $ await ! tt $ pick ! (λ γ. split ! $
-        move ! (2 ∷ 25 ∷ []) $ join ! $ move ! (0 ∷ 1 ∷ 22 ∷ []) $ use3 W (raw (Thin 𝓤 H A at-mem run .pre (to ν l₆ γ))) (goes-in whole-records isi isw ν l₆ γ) $
+        move ! (2 ∷ 25 ∷ []) $ join ! $ move ! (0 ∷ 1 ∷ 22 ∷ []) $ use3 W (raw (Thin 𝓤 H A at-mem run .pre (to ν l₆ γ))) (goes-in asked isi isw ν l₆ γ) $
         -- [what `check_scope_row` asks; the lender's part; _9; …; _8; …; _7; …; …; _5; …; _0; …; the pack; the starts]
         calls-at ! fm (Thin 𝓤 H A at-mem run) known (to ν l₆ γ) (and-then ! (load ! (from ! (stop !)) (look ! 17 refl)) (and-then ! (load ! (from ! (stop !)) (look ! 15 refl)) (and-then ! (load ! (from ! (stop !)) (look ! 13 refl)) (and-then ! (load ! (from ! (stop !)) (look ! 11 refl)) (and-then ! (load ! (from ! (stop !)) (look ! 4 refl)) (no-more !)))))) (λ u.
         use1 W (later (some (λ (r : Outcome). (Toks₃ ν ⊛ ‵ (S.the-row .own r (u ∷ []))) ⊛ raw (ensured 𝓤 H A thin.ended (thin.clauses 𝓤 H A at-mem run) (κp, (κs, (ν ∷ [], tt))) (p, (s, (i, (w, (lent l₆ γ, tt))))) tt r)))) (id⊢ 𝓤 _) $ await ! tt $ pick ! (λ r.
@@ -235,7 +235,7 @@ module _ {M : Type 1} (𝓤 : URA M) (H : Heap 𝓤) (A : Atoms 𝓤) (W : Given
       → Walks 𝓤 H A outer.ended stayed (WpFn 𝓤 H C Λ code.function) (outer.clauses 𝓤 H A at-mem run)
   outer-walks C Λ fm known = walked 𝓤 H A outer.ended stayed (outer.clauses 𝓤 H A at-mem run) (WpFn 𝓤 H C Λ code.function) (λ κs. (slice-vals, (ptr-vals, (uint-vals w32, (LL.vals R.the-type R′.the-laws, (LL.vals E.the-type E′.the-laws, tt))))))
       (λ κs. (shr-slice-tells (named 0) (κs .0) u8, (shr-tells (named 1) (κs .1 .0) Starts, (uint-tells w32, (LL.tells R.the-type R′.the-laws, (LL.tells E.the-type E′.the-laws, tt))))))
-      (λ κs qs bounds a g are. needs 𝓤 (Whole (now (a .0))) _ (λ whole-records. walk 𝓤 H A W at-mem run (κs .0) (κs .1 .0) (qs .0) (qs .1 .0) (a .0) (a .1 .0) (a .1 .1 .0) (a .1 .1 .1 .0) (a .1 .1 .1 .1 .0) C Λ fm known whole-records (are .0) (are .1 .1 .0) (are .1 .1 .1 .0) (are .1 .1 .1 .1 .0)))
+      (λ κs qs bounds a g are. needs 𝓤 (Whole (now (a .0)) × (Rising (now (a .1 .0)) × Within (now (a .0)) (now (a .1 .0)))) _ (λ asked. walk 𝓤 H A W at-mem run (κs .0) (κs .1 .0) (qs .0) (qs .1 .0) (a .0) (a .1 .0) (a .1 .1 .0) (a .1 .1 .1 .0) (a .1 .1 .1 .1 .0) C Λ fm known asked (are .0) (are .1 .1 .0) (are .1 .1 .1 .0) (are .1 .1 .1 .1 .0)))
 
   goes : AllGo 𝓤 H A W 2 (outer.signature .params) (outer.ended .kept) stayed
   goes = (goes-none-slice 𝓤 H A W 2 (0 ∷ []) tt (plain (λ _. u8)) yes, (goes-none-ref 𝓤 H A W 2 (1 ∷ []) tt (plain (λ _. Starts)) yes, (goes-none 𝓤 H A W 2 (λ _. u32) yes (λ κs x f. refl), (goes-none 𝓤 H A W 2 (λ _. R.the-row) yes (λ κs x f. refl), (goes-none 𝓤 H A W 2 (λ _. E.the-row) yes (λ κs x f. refl), tt)))))
