@@ -1,10 +1,16 @@
 -- Where the rows of an enclave's tables lie. Assumes nothing.
 use Prim.Native.Nat.{ℕ, zero, suc, _+_, _-_, _<_, _≤_}
-use mathlib.Core.Path.{_≡_}
-use mathlib.Core.List.{List}
+use mathlib.Core.Bool.{Bool, true, false, true≢false}
+use mathlib.Core.Path.{_≡_, refl, _∙_, sym}
+use mathlib.Core.List.{List, [], _∷_}
+use lib.Dec.{ltb}
 use native.Mathlib.Omega.{arith}
 use lib.ListN.{getD}
 use borrow.Author.Tests.{ltb-true}
+use Rattle.answers.specs.declared.Refusal.{Refusal}
+use Rattle.answers.specs.declared.Outcome.{Outcome}
+use Rattle.answers.specs.declared.Outcome.the-variants.{Passed}
+use Rattle.answers.specs.Checks.{need, first, Decides}
 use Rattle.checks.specs.declared.Found.{Found}
 use Rattle.checks.specs.declared.Found.the-variants as found
 use Rattle.checks.specs.Image.{startOf, rowsOf, Rising}
@@ -33,3 +39,12 @@ found-inside {s} {m} {g = g} {v = v} {n = n} h w l k e =
     let a = row-below h g v l (ltb-true v (rowsOf s g) (found-there k e)) in
     let b = found-row k e in
     omega arith
+
+-- a reference whose check passes is to a row that its table has
+holds : (b : Bool) (r : Refusal) → first (need b r ∷ []) ≡ Passed → b ≡ true
+unfolding first
+holds true r e = refl
+holds false r e = let z : _≡_ {A = Bool} true false = cc in absurd (true≢false z)
+
+pub passed-row : (v m : ℕ) {r : Refusal} {o : Outcome} → Decides (need (ltb v m) r ∷ []) o → o ≡ Passed → v < m
+passed-row v m {r} d e = ltb-true v m (holds (ltb v m) r (sym (d .is) ∙ e))

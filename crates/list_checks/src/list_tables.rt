@@ -280,7 +280,7 @@ fn check_enabled_mode(
     let Found::Row(at) = found else {
         return found.refused();
     };
-    let mode = read::mode_at(p, at);
+    let mode = read::mode_of(p, at);
     let owner = mode.reactor;
     if owner.0 == reactor.0 {
         return Outcome::Passed;

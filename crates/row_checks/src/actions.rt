@@ -137,7 +137,7 @@ fn check_action(p: &[u8], s: &TableStarts, n: usize, i: u32) -> Outcome
     requires { ⌜ Whole (now p) × (Rising (now s) × (Within (now p) (now s) × (i < rowsOf (now s) 3))) ⌝ }
     ensures { λ r. ⌜ Decides (actionChecks (image (now (p .entry)) [] [] (now (s .entry)) n) i) r ⌝ }
 {
-    let row = read::action_at(p, refs::row_number(s, ActionImage::TABLE, i));
+    let row = read::action_of(p, refs::row_of(s, ActionImage::TABLE, i));
     check_action_row(p, s, n, i, row, triggers_end_before(p, s, i))
 }
 

@@ -75,10 +75,10 @@ fn check_mode_row(p: &[u8], s: &TableStarts, i: u32, row: ModeImage) -> Outcome
 
 // Row i of the modes.
 fn check_mode(p: &[u8], s: &TableStarts, i: u32) -> Outcome
-    requires { ⌜ Whole (now p) × (Rising (now s) × Within (now p) (now s)) ⌝ }
+    requires { ⌜ Whole (now p) × (Rising (now s) × (Within (now p) (now s) × (i < rowsOf (now s) 6))) ⌝ }
     ensures { λ r. ⌜ Decides (modeChecks (image (now (p .entry)) [] [] (now (s .entry)) 0) i) r ⌝ }
 {
-    let row = read::mode_at(p, refs::row_number(s, ModeImage::TABLE, i));
+    let row = read::mode_of(p, refs::row_of(s, ModeImage::TABLE, i));
     check_mode_row(p, s, i, row)
 }
 

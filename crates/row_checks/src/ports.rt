@@ -65,7 +65,7 @@ fn check_port(p: &[u8], s: &TableStarts, i: u32) -> Outcome
     requires { ⌜ Whole (now p) × (Rising (now s) × (Within (now p) (now s) × (i < rowsOf (now s) 4))) ⌝ }
     ensures { λ r. ⌜ Decides (portChecks (image (now (p .entry)) [] [] (now (s .entry)) 0) i) r ⌝ }
 {
-    let row = read::port_at(p, refs::row_number(s, PortImage::TABLE, i));
+    let row = read::port_of(p, refs::row_of(s, PortImage::TABLE, i));
     check_port_row(p, s, i, row, triggers_end_before(p, s, i))
 }
 

@@ -80,11 +80,10 @@ fn check_scope_reactor(
     scope: ScopeIndex,
     reactor: ReactorIndex,
 ) -> Outcome
-    requires { ⌜ Whole (now p) × (Rising (now s) × Within (now p) (now s)) ⌝ }
+    requires { ⌜ Rising (now s) × (Within (now p) (now s) × (scope .0 < rowsOf (now s) 7)) ⌝ }
     ensures { λ r. ⌜ Decides (need (eqb (scopesAt (now (p .entry)) (now (s .entry)) (scope .0) .reactor .0) (reactor .0)) (Refusal.OwnershipMismatch 5 i 10) ∷ []) r ⌝ }
 {
-    let row = read::scope_at(p, refs::row_number(s, ScopeImage::TABLE, scope.0));
-    let owner = row.reactor;
+    let owner = parts::scope_reactor_of(p, refs::row_of(s, ScopeImage::TABLE, scope.0));
     if owner.0 == reactor.0 {
         return Outcome::Passed;
     }

@@ -193,7 +193,7 @@ fn check_reactor(p: &[u8], s: &TableStarts, n: usize, i: u32) -> Outcome
     requires { ⌜ Whole (now p) × (Rising (now s) × (Within (now p) (now s) × (i < rowsOf (now s) 2))) ⌝ }
     ensures { λ r. ⌜ Decides (reactorChecks (image (now (p .entry)) [] [] (now (s .entry)) n) i) r ⌝ }
 {
-    let row = read::reactor_at(p, refs::row_number(s, ReactorImage::TABLE, i));
+    let row = read::reactor_of(p, refs::row_of(s, ReactorImage::TABLE, i));
     check_reactor_row(p, s, n, i, row, modes_end_before(p, s, i))
 }
 

@@ -1,4 +1,4 @@
-// Readers of tables 0 to 7, 23 and 24, by slice and record number, of a pack of whole records. A record past the pack is the empty row.
+// Readers of tables 0 to 7, 23 and 24, by slice and record number. Those named `_of` ask for a record inside the pack; the others for a pack of whole records, and a record past it is the empty row.
 ghost use mathlib.Core.Path.{_≡_};
 ghost use Prim.Native.Nat.{_+_, _*_, _/_, _≤_, _<_, _%_};
 ghost use lib.Dec.{eqb};
@@ -260,13 +260,10 @@ pub fn enclave_at(p: &[u8], n: usize) -> EnclaveImage
     }
 }
 
-pub fn reactor_at(p: &[u8], n: usize) -> ReactorImage
-    requires { ⌜ Whole (now p) ⌝ }
+pub fn reactor_of(p: &[u8], n: usize) -> ReactorImage
+    requires { ⌜ n < length (now p) / 64 ⌝ }
     ensures { λ r. ⌜ r ≡ reactorAt (now (p .entry)) n ⌝ }
 {
-    if p.len() / 64 <= n {
-        return ReactorImage::empty();
-    }
     let bits = byte_of(p, n, 1);
     ReactorImage {
         state_binding: BindingSlotIndex(word_of(p, n, 4)),
@@ -281,13 +278,20 @@ pub fn reactor_at(p: &[u8], n: usize) -> ReactorImage
     }
 }
 
-pub fn action_at(p: &[u8], n: usize) -> ActionImage
+pub fn reactor_at(p: &[u8], n: usize) -> ReactorImage
     requires { ⌜ Whole (now p) ⌝ }
-    ensures { λ r. ⌜ r ≡ actionAt (now (p .entry)) n ⌝ }
+    ensures { λ r. ⌜ r ≡ reactorAt (now (p .entry)) n ⌝ }
 {
     if p.len() / 64 <= n {
-        return ActionImage::empty();
+        return ReactorImage::empty();
     }
+    reactor_of(p, n)
+}
+
+pub fn action_of(p: &[u8], n: usize) -> ActionImage
+    requires { ⌜ n < length (now p) / 64 ⌝ }
+    ensures { λ r. ⌜ r ≡ actionAt (now (p .entry)) n ⌝ }
+{
     let bits = byte_of(p, n, 1);
     ActionImage {
         scope: ScopeIndex(word_of(p, n, 4)),
@@ -298,6 +302,27 @@ pub fn action_at(p: &[u8], n: usize) -> ActionImage
     }
 }
 
+pub fn action_at(p: &[u8], n: usize) -> ActionImage
+    requires { ⌜ Whole (now p) ⌝ }
+    ensures { λ r. ⌜ r ≡ actionAt (now (p .entry)) n ⌝ }
+{
+    if p.len() / 64 <= n {
+        return ActionImage::empty();
+    }
+    action_of(p, n)
+}
+
+pub fn port_of(p: &[u8], n: usize) -> PortImage
+    requires { ⌜ n < length (now p) / 64 ⌝ }
+    ensures { λ r. ⌜ r ≡ portAt (now (p .entry)) n ⌝ }
+{
+    PortImage {
+        binding: BindingSlotIndex(word_of(p, n, 4)),
+        scope: ScopeIndex(word_of(p, n, 8)),
+        triggers: range_of(p, n, 12),
+    }
+}
+
 pub fn port_at(p: &[u8], n: usize) -> PortImage
     requires { ⌜ Whole (now p) ⌝ }
     ensures { λ r. ⌜ r ≡ portAt (now (p .entry)) n ⌝ }
@@ -305,11 +330,7 @@ pub fn port_at(p: &[u8], n: usize) -> PortImage
     if p.len() / 64 <= n {
         return PortImage::empty();
     }
-    PortImage {
-        binding: BindingSlotIndex(word_of(p, n, 4)),
-        scope: ScopeIndex(word_of(p, n, 8)),
-        triggers: range_of(p, n, 12),
-    }
+    port_of(p, n)
 }
 
 pub fn reaction_at(p: &[u8], n: usize) -> ReactionImage
@@ -334,6 +355,16 @@ pub fn reaction_at(p: &[u8], n: usize) -> ReactionImage
     }
 }
 
+pub fn mode_of(p: &[u8], n: usize) -> ModeImage
+    requires { ⌜ n < length (now p) / 64 ⌝ }
+    ensures { λ r. ⌜ r ≡ modeAt (now (p .entry)) n ⌝ }
+{
+    ModeImage {
+        reactor: ReactorIndex(word_of(p, n, 4)),
+        scope: ScopeIndex(word_of(p, n, 8)),
+    }
+}
+
 pub fn mode_at(p: &[u8], n: usize) -> ModeImage
     requires { ⌜ Whole (now p) ⌝ }
     ensures { λ r. ⌜ r ≡ modeAt (now (p .entry)) n ⌝ }
@@ -341,19 +372,13 @@ pub fn mode_at(p: &[u8], n: usize) -> ModeImage
     if p.len() / 64 <= n {
         return ModeImage::empty();
     }
-    ModeImage {
-        reactor: ReactorIndex(word_of(p, n, 4)),
-        scope: ScopeIndex(word_of(p, n, 8)),
-    }
+    mode_of(p, n)
 }
 
-pub fn scope_at(p: &[u8], n: usize) -> ScopeImage
-    requires { ⌜ Whole (now p) ⌝ }
+pub fn scope_of(p: &[u8], n: usize) -> ScopeImage
+    requires { ⌜ n < length (now p) / 64 ⌝ }
     ensures { λ r. ⌜ r ≡ scopeAt (now (p .entry)) n ⌝ }
 {
-    if p.len() / 64 <= n {
-        return ScopeImage::empty();
-    }
     let bits = byte_of(p, n, 1);
     ScopeImage {
         parent: maybe_scope(bit(bits, 1), word_of(p, n, 4)),
@@ -366,6 +391,16 @@ pub fn scope_at(p: &[u8], n: usize) -> ScopeImage
         startup_reactions: range_of(p, n, 48),
         shutdown_reactions: range_of(p, n, 56),
     }
+}
+
+pub fn scope_at(p: &[u8], n: usize) -> ScopeImage
+    requires { ⌜ Whole (now p) ⌝ }
+    ensures { λ r. ⌜ r ≡ scopeAt (now (p .entry)) n ⌝ }
+{
+    if p.len() / 64 <= n {
+        return ScopeImage::empty();
+    }
+    scope_of(p, n)
 }
 
 pub fn route_at(p: &[u8], n: usize) -> RouteImage

@@ -202,9 +202,9 @@ fn row_by(p: &[u8], s: &TableStarts, i: u32, row: ScopeImage, ends: ScopeEnds) -
 
 // Row i of the pack.
 pub fn scope_row_by(p: &[u8], s: &TableStarts, i: u32, ends: ScopeEnds) -> EndsAnswer
-    requires { ⌜ Whole (now p) × (Rising (now s) × Within (now p) (now s)) ⌝ }
+    requires { ⌜ Whole (now p) × (Rising (now s) × (Within (now p) (now s) × (i < rowsOf (now s) 7))) ⌝ }
     ensures { λ r. ⌜ Moves (scopeRowChecks (image (now (p .entry)) [] [] (now (s .entry)) 0) i (scopesAt (now (p .entry)) (now (s .entry)) i) ends) (scopesAt (now (p .entry)) (now (s .entry)) i) ends (r .ends) (r .answer) ⌝ }
 {
-    let row = read::scope_at(p, refs::row_number(s, ScopeImage::TABLE, i));
+    let row = read::scope_of(p, refs::row_of(s, ScopeImage::TABLE, i));
     row_by(p, s, i, row, ends)
 }

@@ -65,7 +65,7 @@ pub fn check_scope_mode(
     let Found::Row(n) = found else {
         return found.refused();
     };
-    if owns(read::mode_at(p, n), i, reactor) {
+    if owns(read::mode_of(p, n), i, reactor) {
         return Outcome::Passed;
     }
     Outcome::Refused(Refusal::OwnershipMismatch {

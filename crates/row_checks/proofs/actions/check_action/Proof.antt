@@ -6,7 +6,7 @@ use Rattle.row_checks.proofs.actions.check_action.Tie as tie
 
 returns : tie.Need-returns
 unfolding actionChecks
-returns c = rw (← c .before .before .before .row-number .ensures, ← c .before .before .action-at .ensures, ← c .before .triggers-end-before .ensures) (c .check-action-row .ensures)
+returns c = rw (← c .before .before .before .row-of .ensures .0, ← c .before .before .action-of .ensures, ← c .before .triggers-end-before .ensures) (c .check-action-row .ensures)
 
 pub check-action-spec : {M : Type 1} → statement M
 check-action-spec =

@@ -6,7 +6,7 @@ use Rattle.row_checks.proofs.modes.check_mode.Tie as tie
 
 returns : tie.Need-returns
 unfolding modeChecks
-returns c = rw (← c .before .before .row-number .ensures, ← c .before .mode-at .ensures) (c .check-mode-row .ensures)
+returns c = rw (← c .before .before .row-of .ensures .0, ← c .before .mode-of .ensures) (c .check-mode-row .ensures)
 
 pub check-mode-spec : {M : Type 1} → statement M
 check-mode-spec =

@@ -6,7 +6,7 @@ use Rattle.row_checks.proofs.ports.check_port.Tie as tie
 
 returns : tie.Need-returns
 unfolding portChecks
-returns c = rw (← c .before .before .before .row-number .ensures, ← c .before .before .port-at .ensures, ← c .before .triggers-end-before .ensures) (c .check-port-row .ensures)
+returns c = rw (← c .before .before .before .row-of .ensures .0, ← c .before .before .port-of .ensures, ← c .before .triggers-end-before .ensures) (c .check-port-row .ensures)
 
 pub check-port-spec : {M : Type 1} → statement M
 check-port-spec =

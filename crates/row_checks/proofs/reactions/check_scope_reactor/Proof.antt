@@ -11,6 +11,6 @@ check-scope-reactor-spec =
     (tie.spec
     (λ c κs. search needs)
     (λ c κs. search needs)
-    (λ c. rw (← c .before .before .before .before .before .row-number .ensures, ← c .before .before .before .before .scope-at .ensures) (pass (eq-eqb _ _ (c .if1 .taken)) none))
+    (λ c. rw (← c .before .before .before .before .row-of .ensures .0, ← c .before .before .before .scope-reactor-of .ensures) (pass (eq-eqb _ _ (c .if1 .taken)) none))
     (λ c κs. search needs)
-    (λ c. rw (← c .before .before .before .before .before .before .row-number .ensures, ← c .before .before .before .before .before .scope-at .ensures, c .wrong-owner .ensures) (fail (ne-eqb _ _ (c .before .if1 .left)))))
+    (λ c. rw (← c .before .before .before .before .before .row-of .ensures .0, ← c .before .before .before .before .scope-reactor-of .ensures, c .wrong-owner .ensures) (fail (ne-eqb _ _ (c .before .if1 .left)))))

@@ -6,7 +6,7 @@ use Rattle.row_checks.proofs.reactors.check_reactor.Tie as tie
 
 returns : tie.Need-returns
 unfolding reactorChecks
-returns c = rw (← c .before .before .before .row-number .ensures, ← c .before .before .reactor-at .ensures, ← c .before .modes-end-before .ensures) (c .check-reactor-row .ensures)
+returns c = rw (← c .before .before .before .row-of .ensures .0, ← c .before .before .reactor-of .ensures, ← c .before .modes-end-before .ensures) (c .check-reactor-row .ensures)
 
 pub check-reactor-spec : {M : Type 1} → statement M
 check-reactor-spec =

@@ -18,10 +18,6 @@ returns c =
     let h : length (now (a .p)) ≤ a .n * 64 = omega arith in
     c .empty .ensures ∙ row-past actionOf layout.actions (now (a .p)) (a .n) h
 
-returns-2 : tie.Need-returns-2
-unfolding actionAt
-returns-2 c = simp (c .range-of .ensures, c .before .timing-of .ensures, c .before .before .long-of .ensures, c .before .before .before .bit2 .ensures, c .before .before .before .before .byte-of2 .ensures, c .before .before .before .before .before .maybe-binding .ensures, c .before .before .before .before .before .before .word-of3 .ensures, c .before .before .before .before .before .before .before .bit .ensures, c .before .before .before .before .before .before .before .before .word-of2 .ensures, c .before .before .before .before .before .before .before .before .before .word-of .ensures, c .before .before .before .before .before .before .before .before .before .before .byte-of .ensures)
-
 pub action-at-spec : {M : Type 1} → statement M
 action-at-spec =
     tie.close
@@ -29,14 +25,4 @@ action-at-spec =
     (λ c κs. search needs)
     returns
     (λ c κs. search needs)
-    (λ c κs. search needs)
-    (λ c κs. search needs)
-    (λ c κs. search needs)
-    (λ c κs. search needs)
-    (λ c κs. search needs)
-    (λ c κs. search needs)
-    (λ c κs. search needs)
-    (λ c κs. search needs)
-    (λ c κs. search needs)
-    (λ c κs. search needs)
-    returns-2)
+    (λ c. search needs))

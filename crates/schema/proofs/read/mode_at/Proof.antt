@@ -18,15 +18,11 @@ returns c =
     let h : length (now (a .p)) ≤ a .n * 64 = omega arith in
     c .empty .ensures ∙ row-past modeOf layout.modes (now (a .p)) (a .n) h
 
-returns-2 : tie.Need-returns-2
-unfolding modeAt
-returns-2 c = simp (c .word-of2 .ensures, c .before .word-of .ensures)
-
 pub mode-at-spec : {M : Type 1} → statement M
 mode-at-spec =
-    tie.close (tie.spec
+    tie.close
+    (tie.spec
     (λ c κs. search needs)
     returns
     (λ c κs. search needs)
-    (λ c κs. search needs)
-    returns-2)
+    (λ c. search needs))

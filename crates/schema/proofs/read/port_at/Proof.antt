@@ -18,10 +18,6 @@ returns c =
     let h : length (now (a .p)) ≤ a .n * 64 = omega arith in
     c .empty .ensures ∙ row-past portOf layout.ports (now (a .p)) (a .n) h
 
-returns-2 : tie.Need-returns-2
-unfolding portAt
-returns-2 c = simp (c .range-of .ensures, c .before .word-of2 .ensures, c .before .before .word-of .ensures)
-
 pub port-at-spec : {M : Type 1} → statement M
 port-at-spec =
     tie.close
@@ -29,6 +25,4 @@ port-at-spec =
     (λ c κs. search needs)
     returns
     (λ c κs. search needs)
-    (λ c κs. search needs)
-    (λ c κs. search needs)
-    returns-2)
+    (λ c. search needs))

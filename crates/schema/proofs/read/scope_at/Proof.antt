@@ -18,10 +18,6 @@ returns c =
     let h : length (now (a .p)) ≤ a .n * 64 = omega arith in
     c .empty .ensures ∙ row-past scopeOf layout.scopes (now (a .p)) (a .n) h
 
-returns-2 : tie.Need-returns-2
-unfolding scopeAt
-returns-2 c = simp (c .range-of6 .ensures, c .before .range-of5 .ensures, c .before .before .range-of4 .ensures, c .before .before .before .range-of3 .ensures, c .before .before .before .before .range-of2 .ensures, c .before .before .before .before .before .range-of .ensures, c .before .before .before .before .before .before .maybe-mode .ensures, c .before .before .before .before .before .before .before .word-of3 .ensures, c .before .before .before .before .before .before .before .before .bit2 .ensures, c .before .before .before .before .before .before .before .before .before .word-of2 .ensures, c .before .before .before .before .before .before .before .before .before .before .maybe-scope .ensures, c .before .before .before .before .before .before .before .before .before .before .before .word-of .ensures, c .before .before .before .before .before .before .before .before .before .before .before .before .bit .ensures, c .before .before .before .before .before .before .before .before .before .before .before .before .before .byte-of .ensures)
-
 pub scope-at-spec : {M : Type 1} → statement M
 scope-at-spec =
     tie.close
@@ -29,17 +25,4 @@ scope-at-spec =
     (λ c κs. search needs)
     returns
     (λ c κs. search needs)
-    (λ c κs. search needs)
-    (λ c κs. search needs)
-    (λ c κs. search needs)
-    (λ c κs. search needs)
-    (λ c κs. search needs)
-    (λ c κs. search needs)
-    (λ c κs. search needs)
-    (λ c κs. search needs)
-    (λ c κs. search needs)
-    (λ c κs. search needs)
-    (λ c κs. search needs)
-    (λ c κs. let h = c .before .before .before .before .before .before .before .before .before .before .before .before .if1 .left in (omega arith, omega arith))
-    (λ c κs. let h = c .before .before .before .before .before .before .before .before .before .before .before .before .before .if1 .left in (omega arith, omega arith))
-    returns-2)
+    (λ c. search needs))

@@ -9,4 +9,4 @@ scope-row-by-spec =
     (λ c κs. search needs)
     (λ c κs. search needs)
     (λ c κs. search needs)
-    (λ c. rw (← c .before .before .row-number .ensures, ← c .before .scope-at .ensures) (c .row-by .ensures)))
+    (λ c. rw (← c .before .before .row-of .ensures .0, ← c .before .scope-of .ensures) (c .row-by .ensures)))

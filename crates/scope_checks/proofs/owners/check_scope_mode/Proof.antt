@@ -1,5 +1,6 @@
 -- `scope_checks::owners::check_scope_mode` meets its contract. Assumes nothing.
 use Rattle.checks.proofs.FoundLaws.{found-lost, found-there, found-row}
+use Rattle.checks.proofs.RowLaws.{found-inside}
 use Rattle.answers.proofs.Laws.{none, pass, fail}
 use mathlib.Core.Path.{_∙_, sym}
 use borrow.Author.Needs.{needs}
@@ -18,7 +19,7 @@ check-scope-mode-spec =
     (λ c. search needs)
     (λ c κs. search needs)
     (λ c. rw (c .before .before .before .before .before .mode .given .1) (found-lost (c .before .before .before .check-mode-ref .ensures) (c .before .enum-told2 .given .1) (c .refused .ensures)))
+    (λ c κs. search (needs, found-inside))
     (λ c κs. search needs)
-    (λ c κs. search needs)
-    (λ c. rw (c .before .before .before .before .before .before .before .before .mode .given .1) (pass (found-there (c .before .before .before .before .before .before .check-mode-ref .ensures) (c .before .before .before .before .found .given .1)) (pass (rw (← found-row (c .before .before .before .before .before .before .check-mode-ref .ensures) (c .before .before .before .before .found .given .1), ← c .before .before .mode-at .ensures) (sym (c .before .owns .ensures) ∙ c .if1 .taken)) none)))
-    (λ c. rw (c .before .before .before .before .before .before .before .before .mode .given .1) (pass (found-there (c .before .before .before .before .before .before .check-mode-ref .ensures) (c .before .before .before .before .found .given .1)) (fail (rw (← found-row (c .before .before .before .before .before .before .check-mode-ref .ensures) (c .before .before .before .before .found .given .1), ← c .before .before .mode-at .ensures) (sym (c .before .owns .ensures) ∙ c .if1 .left))))))
+    (λ c. rw (c .before .before .before .before .before .before .before .before .mode .given .1) (pass (found-there (c .before .before .before .before .before .before .check-mode-ref .ensures) (c .before .before .before .before .found .given .1)) (pass (rw (← found-row (c .before .before .before .before .before .before .check-mode-ref .ensures) (c .before .before .before .before .found .given .1), ← c .before .before .mode-of .ensures) (sym (c .before .owns .ensures) ∙ c .if1 .taken)) none)))
+    (λ c. rw (c .before .before .before .before .before .before .before .before .mode .given .1) (pass (found-there (c .before .before .before .before .before .before .check-mode-ref .ensures) (c .before .before .before .before .found .given .1)) (fail (rw (← found-row (c .before .before .before .before .before .before .check-mode-ref .ensures) (c .before .before .before .before .found .given .1), ← c .before .before .mode-of .ensures) (sym (c .before .owns .ensures) ∙ c .if1 .left))))))

@@ -23,7 +23,7 @@ check-scopes-spec =
     (λ c κs. search needs)
     (λ c κs. search needs)
     (λ c. running-start _ _ (c .no-ends .ensures))
-    (λ c κs. search needs)
+    (λ c κs. (search needs, (search needs, (search needs, search needs))))
     (λ c. search needs)
     (λ c. search needs)
     (λ c. rw (← c .before .before .before .before .before .before .rows-of .ensures) (running-stop (c .before .before .before .before .loop .inv) (c .before .before .before .loop-test .taken) (c .before .before .scope-row-by .ensures) (c .enum-told2 .given .1)))
