@@ -1,7 +1,7 @@
 -- Runs of clean records of one table. Assumes nothing.
 use Prim.Native.Nat.{ℕ, _+_, _*_, _-_, _<_, _≤_}
-use mathlib.Core.Bool.{true, false, _&&_, and-true, or-true}
-use mathlib.Core.Path.{_≡_, _∙_, ap, sym}
+use mathlib.Core.Bool.{Bool, true, false, not, _&&_, and-true, or-true}
+use mathlib.Core.Path.{_≡_, refl, _∙_, ap, sym}
 use mathlib.Core.List.{List}
 use native.Mathlib.Omega.{arith}
 use lib.Dec.{leb, eqb}
@@ -13,9 +13,9 @@ use Rattle.schema.specs.Rows.{byteOf}
 use Rattle.schema.proofs.Width.{number-four}
 use Rattle.packing.specs.declared.shape.Shape.{Shape}
 use Rattle.packing.specs.Shape.{layoutOf, governedBytes, shape, shapeOf}
-use Rattle.packing.specs.Clean.{zeros, cleanBy, clean}
-use Rattle.packing.specs.Runs.{PlainShape, plainFrom, CleanRun}
-use Rattle.packing.proofs.Tests.{both, and-next}
+use Rattle.packing.specs.Clean.{zeros, headClean, tailClean, kindClean, cleanBy, clean}
+use Rattle.packing.specs.Runs.{PlainShape, plainFrom, CleanRun, fieldsClean}
+use Rattle.packing.proofs.Tests.{both, and-next, refused, held}
 use Rattle.packing.proofs.Zeros.{zeros-tail}
 use Rattle.packing.proofs.Records.{table-at}
 
@@ -99,3 +99,29 @@ bare-clean p {s} t n f i g e z =
     let y : zeros p (n * 64 + s .used) (64 - s .used) ≡ true = sym (zeros-tail p (n * 64) (s .used) 32 (omega arith) (omega arith)) ∙ z in
     let x : plainFrom s p (n * 64) ≡ true = rw (h .1 .0, h .1 .1 .0, h .1 .1 .1, y, le-leb 0 (s .bits) (omega arith), le-leb 0 (s .kinds) (omega arith)) in
     (h .0, sym (plain-clean p t n i g (h .0)) ∙ x)
+
+-- a record is clean by its parts: the bytes past its fields, bytes 1 to 3 and the governed fields, and what its table asks beside
+parts-turned : (head tail absent kind : Bool) → (head && (tail && absent)) && kind ≡ tail && ((head && absent) && kind)
+parts-turned true true absent kind = refl
+parts-turned true false absent kind = refl
+parts-turned false true absent kind = refl
+parts-turned false false absent kind = refl
+
+clean-parts : (p : List ℕ) (t n : ℕ) → t ≡ byteOf p n 0 → clean p n ≡ tailClean (layoutOf t) p n && (fieldsClean (layoutOf t) p n && kindClean t p n)
+unfolding clean
+clean-parts p t n e = rw (← e) (parts-turned (headClean (layoutOf t) p n) (tailClean (layoutOf t) p n) _ (kindClean t p n))
+
+-- the parts in turn: one that is not clean refuses the record, and the last one decides
+module _ (p : List ℕ) (t n : ℕ) (e : t ≡ byteOf p n 0) {tail : Bool} (a : tail ≡ tailClean (layoutOf t) p n) where
+  pub tail-stray : not tail ≡ true → false ≡ clean p n
+  tail-stray h = rw (clean-parts p t n e, refused a h)
+
+  module _ (h : not tail ≡ false) {fields : Bool} (b : fields ≡ fieldsClean (layoutOf t) p n) where
+    pub fields-stray : not fields ≡ true → false ≡ clean p n
+    fields-stray g = rw (clean-parts p t n e, held a h, refused b g)
+
+    pub kind-decides : not fields ≡ false → {kind : Bool} → kind ≡ kindClean t p n → kind ≡ clean p n
+    kind-decides g d = rw (clean-parts p t n e, held a h, held b g) d
+
+    pub fields-decide : kindClean t p n ≡ true → fields ≡ clean p n
+    fields-decide d = rw (clean-parts p t n e, held a h, d) (b ∙ sym (and-true _))

@@ -12,13 +12,13 @@ use Rattle.packing.specs.declared.PackKind.{PackKind}
 use Rattle.packing.specs.declared.PackKind.the-variants.{Enclave, Federate}
 use Rattle.packing.specs.Packing.{packFits, inPlace}
 use Rattle.packing.specs.Starts.{recordsOf, reaches, tableStarts}
-use Rattle.packing.specs.Runs.{After, CleanRun, RunLimit, OneTable, Reached, RowsFixed, ListTable, ListsPast}
+use Rattle.packing.specs.Runs.{After, CleanRun, RunLimit, OneTable, Reached, RowsFixed, RowTable, RowsPast}
 use Rattle.packing.proofs.Tests.{cases, both}
 use Rattle.packing.proofs.Tables.{pack-length}
 use Rattle.packing.proofs.Records.{table-at}
 use Rattle.packing.proofs.TableStarts.{Fixed, fixed-none, fixed-next, fixed-kept, fixed-turn, fixed-move, fixed-all, reached-end, reached-table}
 use Rattle.packing.proofs.Places.{row-known, run-in-place}
-use Rattle.packing.proofs.ListRuns.{list-after, list-none, list-end, list-bare, list-fixed}
+use Rattle.packing.proofs.RowRuns.{row-after, row-none, row-end, row-bare, row-fixed}
 
 -- a pack that fits has no more records than are looked at
 pub all-records : (p : List ℕ) → packFits p ≡ true → recordsOf p ≡ length p / 64
@@ -133,30 +133,30 @@ module _ {kind : PackKind} {p s : List ℕ} {n : ℕ} (f : packFits p ≡ true) 
             let h : n < recordsOf p = rw (all-records p f) (omega arith) in
             fixed-move (x .rows k nz) (reaches-own p n u h e (omega arith) (omega arith) .others (u + 1) (omega arith) (omega arith)) one
 
-  module _ {w : List ℕ} {u r : ℕ} (x : Ready kind p s u n) (l : ListTable u) (y : ListsPast p u n s r w) where
-    list-later : n ≡ 0 → ⊥
-    list-later = let a = l .from in let e = x .table in not-first kind p n (x .here) (omega arith)
+  module _ {w : List ℕ} {u r : ℕ} (x : Ready kind p s u n) (l : RowTable u) (y : RowsPast p u n s r w) where
+    row-later : n ≡ 0 → ⊥
+    row-later = let a = l .from in let e = x .table in not-first kind p n (x .here) (omega arith)
 
-    -- a run over tables of lists
-    pub placed-lists : n < r → Placed kind p w (byteOf p (r - 1) 0 + 1) r
-    placed-lists a =
+    -- a run over rows without identities
+    pub placed-rows : n < r → Placed kind p w (byteOf p (r - 1) 0 + 1) r
+    placed-rows a =
         record {
           none = λ g. absurd (omega arith);
-          rows = λ k _. rw (list-end (y .listed) a) (fixed-kept (list-fixed l (y .listed) (rw (all-records p f) (y .inside)) (x .rows k list-later)) (y .sized) (y .kept));
+          rows = λ k _. rw (row-end (y .passed) a) (fixed-kept (row-fixed l (y .passed) (rw (all-records p f) (y .inside)) (x .rows k row-later)) (y .sized) (y .kept));
           after = record {
             none = λ g. absurd (omega arith);
-            some = λ _. (refl, list-bare kind l (x .here) (y .listed) (r - 1) (omega arith) (omega arith) .here);
+            some = λ _. (refl, row-bare kind l (x .here) (y .passed) (r - 1) (omega arith) (omega arith) .here);
           };
         }
 
     -- an empty one
     pub ready-still : (n < r → ⊥) → Ready kind p w u n
     ready-still a =
-        let b = list-after (y .listed) in
+        let b = row-after (y .passed) in
         let e : r ≡ n = omega arith in
-        let z = list-none (y .listed) e in
+        let z = row-none (y .passed) e in
         record {
-          none = λ g. absurd (list-later g);
+          none = λ g. absurd (row-later g);
           rows = λ k nz. fixed-kept (x .rows k nz) (rw (z .1) at (y .sized)) (rw (z .0, z .1) at (y .kept));
           here = x .here;
           table = x .table;

@@ -7,5 +7,5 @@ pub mod Packed
 pub mod CleanRuns
 pub mod CheckRuns
 pub mod Places
-pub mod ListRuns
+pub mod RowRuns
 pub mod EnclaveStarts

@@ -1,7 +1,7 @@
 -- What holds of every table's layout, by computing over the list of layouts. Assumes nothing.
 use Prim.Native.Nat.{ℕ, zero, suc, _+_, _*_, _-_, _%_, _<_, _≤_}
 use mathlib.Core.Bool.{Bool, true, _&&_}
-use mathlib.Core.Path.{_≡_, refl}
+use mathlib.Core.Path.{_≡_, refl, _∙_, ap}
 use mathlib.Core.List.{List, [], _∷_}
 use native.Mathlib.Omega.{arith}
 use lib.Dec.{ltb, leb, eqb}
@@ -13,9 +13,10 @@ use Rattle.schema.specs.Layout.{Layout, plain, layouts, bytes, offset, fieldAt}
 use Rattle.schema.specs.Rows.{byteOf, bitOf}
 use Rattle.packing.proofs.Tests.{cases, both}
 use Rattle.packing.specs.declared.shape.Governed.{Governed}
+use Rattle.packing.specs.declared.shape.Shape.{Shape}
 use Rattle.packing.specs.Shape.{layoutOf, used, governed, shapeOf}
 use Rattle.packing.specs.Packing.{packFits, identityAt}
-use Rattle.packing.specs.Runs.{ListTable}
+use Rattle.packing.specs.Runs.{RowTable, ListTable}
 
 -- k is none of the n numbers from 0 on: what the last arm of a match over them knows
 abbrev pub NoneOf : ℕ → ℕ → Type 0
@@ -51,6 +52,10 @@ words-used t =
     let a = both _ _ (every-at wordsUsed layouts (plain []) t refl refl) in
     let b = both _ _ (a .1) in
     (ltb-true _ _ (a .0), (leb-true _ _ (b .0), eqb-true _ _ (b .1)))
+
+-- the bytes that a table uses, by a number and a shape that were called for
+pub used-by : {x : ℕ} {s : Shape} (t : ℕ) → x ≡ s .used → s ≡ shapeOf t → x ≡ shapeOf t .used
+used-by t e d = e ∙ ap (λ (y : Shape). y .used) d
 
 -- the fields that a bit governs are none, a W or two, inside the record
 inside : Governed → Bool
@@ -88,25 +93,39 @@ below-at f (suc k) j e h =
     (λ t. below-at f k j (b .0) (ltb-true j k t))
     (λ n. let l = ltb-false j k n in let q : j ≡ k = omega arith in rw q (b .1))
 
--- the tables of lists govern no field, end in the first half and have no identities
+-- a test holds of every number from i on, k of them
+between-at : (f : ℕ → Bool) (i k t : ℕ) → below (λ j. f (i + j)) k ≡ true → i ≤ t → t < i + k → f t ≡ true
+between-at f i k t e l h =
+    let q : i + (t - i) ≡ t = omega arith in
+    rw q at (below-at (λ j. f (i + j)) k (t - i) e (omega arith))
+
+-- the tables of rows up to 22 have no identities
+pub row-table : (t : ℕ) → 2 ≤ t → t ≤ 22 → RowTable t
+unfolding layouts below
+row-table t l h =
+    record {
+      from = l;
+      upto = h;
+      unnamed = eqb-true _ _ (between-at (λ j. eqb (layoutOf j .identities) 0) 2 21 t refl l (omega arith));
+    }
+
+-- the tables of lists govern no field and end in the first half
 listed : ℕ → Bool
-listed t =
-    (eqb (shapeOf t .«bit_0» .len) 0 && eqb (shapeOf t .«bit_1» .len) 0)
-    && (leb (shapeOf t .used) 32 && eqb (layoutOf t .identities) 0)
+listed t = (eqb (shapeOf t .«bit_0» .len) 0 && eqb (shapeOf t .«bit_1» .len) 0) && leb (shapeOf t .used) 32
 
 pub list-table : (t : ℕ) → 8 ≤ t → t ≤ 22 → ListTable t
 unfolding layouts below listed
 list-table t l h =
-    let e : 8 + (t - 8) ≡ t = omega arith in
-    let a = both _ _ (rw e at (below-at (λ j. listed (8 + j)) 15 (t - 8) refl (omega arith))) in
+    let a = both _ _ (between-at listed 8 15 t refl l (omega arith)) in
     let b = both _ _ (a .0) in
-    let d = both _ _ (a .1) in
     record {
       from = l;
       upto = h;
-      shaped = record { none-0 = eqb-true _ _ (b .0); none-1 = eqb-true _ _ (b .1); half = leb-true _ _ (d .0) };
-      unnamed = eqb-true _ _ (d .1);
+      shaped = record { none-0 = eqb-true _ _ (b .0); none-1 = eqb-true _ _ (b .1); half = leb-true _ _ (a .1) };
     }
+
+pub list-row : {t : ℕ} → ListTable t → RowTable t
+list-row l = let a = l .from in row-table _ (omega arith) (l .upto)
 
 -- identity j is two W at byte 4 + 8 j, inside the record, and has a house bit
 pairAt : Layout → ℕ → Bool

@@ -7,12 +7,13 @@ use lib.Dec.{ltb, leb, eqb}
 use lib.ListN.{getD, length, set, take}
 use Rattle.answers.specs.declared.Outcome.the-variants.{Passed}
 use Rattle.answers.specs.Checks.{Check, first, run}
+use Rattle.schema.specs.Layout.{Layout}
 use Rattle.schema.specs.Rows.{byteOf}
 use Rattle.packing.specs.declared.PackKind.{PackKind}
 use Rattle.packing.specs.declared.PackKind.the-variants.{Enclave}
 use Rattle.packing.specs.declared.shape.Shape.{Shape}
 use Rattle.packing.specs.Shape.{layoutOf, shapeOf}
-use Rattle.packing.specs.Clean.{zeros, clean}
+use Rattle.packing.specs.Clean.{zeros, headClean, absentClean, clean}
 use Rattle.packing.specs.Packing.{inPlace, identityChecks}
 use Rattle.packing.specs.Starts.{recordsOf, reaches}
 
@@ -72,25 +73,34 @@ pub record CleanRun (p : List ℕ) (t n limit r : ℕ) : Type 0 where
   pub tidy : (j : ℕ) → n ≤ j → j < r → clean p j ≡ true
   pub ended : r < limit → byteOf p r 0 ≡ t → clean p r ≡ false
 
--- a table of lists: its shape is plain, and its records have no identities
+-- bytes 1 to 3 of record n and the fields that bits govern are as layout l has them
+abbrev pub fieldsClean : Layout → List ℕ → ℕ → Bool
+fieldsClean l p n = headClean l p n && (absentClean 0 l p n && absentClean 1 l p n)
+
+-- a table of rows without identities
+pub record RowTable (t : ℕ) : Type 0 where
+  pub from : 2 ≤ t
+  pub upto : t ≤ 22
+  pub unnamed : layoutOf t .identities ≡ 0
+
+-- a table of lists: its shape is plain
 pub record ListTable (t : ℕ) : Type 0 where
   pub from : 8 ≤ t
   pub upto : t ≤ 22
   pub shaped : PlainShape (shapeOf t)
-  pub unnamed : layoutOf t .identities ≡ 0
 
--- the records from n up to r are clean, of table u and then of lists' tables right after one another, up to table t; w is s with the starts of those after u
-pub data ListRun (p : List ℕ) (u n : ℕ) (s : List ℕ) : ℕ → ℕ → List ℕ → Type 0 where
-  list-start : ListRun p u n s u n s
-  list-same : {t r : ℕ} {w : List ℕ} → ListRun p u n s t r w → byteOf p r 0 ≡ t → clean p r ≡ true → ListRun p u n s t (r + 1) w
-  list-next : {t r : ℕ} {w : List ℕ} → ListRun p u n s t r w → ListTable (t + 1) → byteOf p r 0 ≡ t + 1 → clean p r ≡ true → ListRun p u n s (t + 1) (r + 1) (set w (t + 1) r)
+-- the records from n up to r are clean, of table u and then of such rows' tables right after one another, up to table t; w is s with the starts of those after u
+pub data RowRun (p : List ℕ) (u n : ℕ) (s : List ℕ) : ℕ → ℕ → List ℕ → Type 0 where
+  row-start : RowRun p u n s u n s
+  row-same : {t r : ℕ} {w : List ℕ} → RowRun p u n s t r w → byteOf p r 0 ≡ t → clean p r ≡ true → RowRun p u n s t (r + 1) w
+  row-next : {t r : ℕ} {w : List ℕ} → RowRun p u n s t r w → RowTable (t + 1) → byteOf p r 0 ≡ t + 1 → clean p r ≡ true → RowRun p u n s (t + 1) (r + 1) (set w (t + 1) r)
 
 -- such a run, where w may have a start of its own after the last table's
-pub record ListsPast (p : List ℕ) (u n : ℕ) (s : List ℕ) (r : ℕ) (w : List ℕ) : Type 0 where
+pub record RowsPast (p : List ℕ) (u n : ℕ) (s : List ℕ) (r : ℕ) (w : List ℕ) : Type 0 where
   pub last : ℕ
   pub fixed : List ℕ
   pub inside : r ≤ length p / 64
-  pub listed : ListRun p u n s last r fixed
+  pub passed : RowRun p u n s last r fixed
   pub sized : length w ≡ length fixed
   pub kept : take (last + 1) w ≡ take (last + 1) fixed
 

@@ -7,7 +7,7 @@ ghost use lib.Dec.{ltb, leb, eqb};
 ghost use Rattle.schema.specs.Rows.{byteOf};
 ghost use Rattle.packing.specs.Shape.{shapeOf};
 ghost use Rattle.packing.specs.Clean.{zeros, clean};
-ghost use Rattle.packing.specs.Runs.{PlainShape, CleanRun, ListTable, ListsPast, plainFrom};
+ghost use Rattle.packing.specs.Runs.{PlainShape, CleanRun, ListTable, RowsPast, plainFrom};
 use crate::shape::Governed;
 use crate::shape::LAST_LIST;
 use crate::shape::Shape;
@@ -24,21 +24,21 @@ pub fn wide(x: u8) -> usize
 }
 
 // Whether the 8, 16 or 32 bytes from `at`, which lie inside, are zero.
-fn zeros_8(p: &[u8], at: usize) -> bool
+pub fn zeros_8(p: &[u8], at: usize) -> bool
     requires { ⌜ at + 8 ≤ length (now p) ⌝ }
     ensures { λ r. ⌜ r ≡ zeros (now (p .entry)) at 8 ⌝ }
 {
     long_inside(p, at) == 0
 }
 
-fn zeros_16(p: &[u8], at: usize) -> bool
+pub fn zeros_16(p: &[u8], at: usize) -> bool
     requires { ⌜ at + 16 ≤ length (now p) ⌝ }
     ensures { λ r. ⌜ r ≡ zeros (now (p .entry)) at 16 ⌝ }
 {
     zeros_8(p, at) & zeros_8(p, at + 8)
 }
 
-fn zeros_32(p: &[u8], at: usize) -> bool
+pub fn zeros_32(p: &[u8], at: usize) -> bool
     requires { ⌜ at + 32 ≤ length (now p) ⌝ }
     ensures { λ r. ⌜ r ≡ zeros (now (p .entry)) at 32 ⌝ }
 {
@@ -60,7 +60,7 @@ fn zero_field(p: &[u8], at: usize, k: usize) -> bool
 }
 
 // Bytes 1 to 3.
-fn head_clean(shape: Shape, bits: u8, kind: u8, last: u8) -> bool
+pub fn head_clean(shape: Shape, bits: u8, kind: u8, last: u8) -> bool
     ensures { λ r. ⌜ r ≡ (leb bits (shape .bits) && (leb kind (shape .kinds) && eqb last 0)) ⌝ }
 {
     (bits <= shape.bits) & ((kind <= shape.kinds) & (last == 0))
@@ -88,7 +88,7 @@ fn tail_clean(p: &[u8], start: usize, used: u8) -> bool
 }
 
 // The fields that a presence bit governs.
-fn absent_clean(present: bool, p: &[u8], start: usize, governed: Governed) -> bool
+pub fn absent_clean(present: bool, p: &[u8], start: usize, governed: Governed) -> bool
     requires { ⌜ (start + 64 ≤ length (now p)) × ((governed .len % 4 ≡ 0) × ((governed .len ≤ 8) × (governed .offset + governed .len ≤ 64))) ⌝ }
     ensures { λ r. ⌜ r ≡ (present || zeros (now (p .entry)) (start + governed .offset) (governed .len)) ⌝ }
 {
@@ -99,7 +99,7 @@ fn absent_clean(present: bool, p: &[u8], start: usize, governed: Governed) -> bo
 }
 
 // The bit and the D of an action's timing.
-fn timing_clean(p: &[u8], start: usize, period: bool, kind: u8) -> bool
+pub fn timing_clean(p: &[u8], start: usize, period: bool, kind: u8) -> bool
     requires { ⌜ start + 64 ≤ length (now p) ⌝ }
     ensures { λ r. ⌜ r ≡ ((eqb kind 2 || not period) && (ltb kind 2 || (period || zeros (now (p .entry)) (start + 16) 8))) ⌝ }
 {
@@ -151,7 +151,7 @@ fn is_plain(p: &[u8], start: usize, shape: Shape) -> bool
 // How far from n on the records are of `table`, a list's, and of the lists' tables right after one another, with nothing in bytes 1 to 3 or past the last field: told by one number, and clean. The starts of the tables after `table` are written.
 pub fn past_lists(p: &[u8], starts: &mut TableStarts, n: usize, table: u8) -> usize
     requires { ⌜ (n < length (now p) / 64) × ((length (now p) / 64 < 4294967296) × ListTable table) ⌝ }
-    ensures { λ r. ⌜ ListsPast (now (p .entry)) table n (now (starts .entry)) r (now (starts .exit)) ⌝ }
+    ensures { λ r. ⌜ RowsPast (now (p .entry)) table n (now (starts .entry)) r (now (starts .exit)) ⌝ }
 {
     let records = p.len() / 64;
     let mut next = n;

@@ -1,5 +1,6 @@
 // The packing rules of a pack, record by record, and where each table of an enclave begins.
 pub mod clean;
+pub mod rows;
 pub mod rules;
 pub mod shape;
 pub mod starts;

@@ -11,10 +11,10 @@ ghost use Rattle.packing.specs.Starts.{startsAfter};
 ghost use Rattle.packing.specs.Runs.{NamedRun, RunLimit, NamedPassed, After, RowsFixed, namedChecks};
 use crate::PackKind;
 use crate::clean::past_clean;
-use crate::clean::past_lists;
 use crate::clean::wide;
+use crate::rows::past_tables;
 use crate::shape::TABLES;
-use crate::shape::is_list;
+use crate::shape::is_row;
 use crate::shape::shape_of;
 use crate::starts::fix_starts;
 use crate::walker::Record;
@@ -249,7 +249,7 @@ fn place_row(
     true
 }
 
-// Run by run, until the walker is at the end; lists that follow one another are one run. A record of the same table after one in its place is in its place. The tables below t have their starts; t is 26 at record 0, and tables 0 and 1 start at record 1. `starts` is written at the end.
+// Run by run, until the walker is at the end; rows without identities whose tables follow one another are one run. A record of the same table after one in its place is in its place. The tables below t have their starts; t is 26 at record 0, and tables 0 and 1 start at record 1. `starts` is written at the end.
 fn check_records<'a>(
     kind: PackKind,
     pack: &'a [u8],
@@ -275,13 +275,13 @@ fn check_records<'a>(
         if !place_row(kind, pack, &mut found, t, n, table) {
             return Outcome::Refused(Refusal::TableOutOfPlace { record: place });
         }
-        // A list's record with a stray byte is left to the test of any record.
-        if is_list(table) {
-            let listed = past_lists(pack, &mut found, n, table);
-            if n < listed {
-                let last = listed - 1;
+        // A record with a stray byte is left to the test of any record.
+        if is_row(table) {
+            let seen = past_tables(pack, &mut found, n, table);
+            if n < seen {
+                let last = seen - 1;
                 t = wide(pack[last * 64]) + 1;
-                n = listed;
+                n = seen;
                 continue;
             }
         }

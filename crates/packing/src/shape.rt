@@ -3,7 +3,7 @@ ghost use mathlib.Core.Path.{_≡_};
 ghost use mathlib.Core.Bool.{true, _&&_};
 ghost use lib.Dec.{leb};
 ghost use Rattle.packing.specs.Shape.{unpacked, shapeOf};
-ghost use Rattle.packing.specs.Runs.{ListTable};
+ghost use Rattle.packing.specs.Runs.{ListTable, RowTable};
 
 // The bytes of a record that a presence bit governs: `len` of them from `offset`.
 pub struct Governed {
@@ -86,7 +86,7 @@ pub fn shape_of(table: u8) -> Shape
     unpack(shape_number(table))
 }
 
-// The tables of lists, up to the last one: they govern no field and have no identities.
+// The tables of lists, up to the last one: they govern no field.
 pub const LAST_LIST: u8 = 22;
 
 pub fn is_list(table: u8) -> bool
@@ -94,4 +94,12 @@ pub fn is_list(table: u8) -> bool
     ensures { λ r. ⌜ (r ≡ true → ListTable table) ⌝ }
 {
     (8 <= table) & (table <= LAST_LIST)
+}
+
+// The tables of an enclave's rows that have no identities.
+pub fn is_row(table: u8) -> bool
+    ensures { λ r. ⌜ r ≡ (leb 2 table && leb table 22) ⌝ }
+    ensures { λ r. ⌜ (r ≡ true → RowTable table) ⌝ }
+{
+    (2 <= table) & (table <= LAST_LIST)
 }

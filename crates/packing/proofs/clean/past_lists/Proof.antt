@@ -1,26 +1,26 @@
 -- `packing::clean::past_lists` meets its contract. Assumes nothing.
 use Prim.Native.Nat.{_+_, _*_, _-_, _/_, _≤_}
-use mathlib.Core.Path.{_≡_, refl, _∙_, ap, sym}
+use mathlib.Core.Path.{_≡_, refl, _∙_, sym}
 use mathlib.Core.Logic.{⊎-elim}
 use native.Mathlib.Omega.{arith}
 use borrow.Author.Needs.{needs}
 use borrow.Author.Tests.{leb-false, eqb-true, not-false}
 use denote.Ref.{now}
 use lib.ListN.{length}
-use Rattle.packing.specs.declared.shape.Shape.{Shape}
 use Rattle.packing.specs.Shape.{shapeOf}
-use Rattle.packing.specs.Runs.{ListTable, ListRun, list-start}
+use Rattle.packing.specs.Runs.{ListTable, RowRun, row-start}
 use Rattle.packing.proofs.Tests.{neither}
+use Rattle.packing.proofs.Tables.{used-by, list-table, list-row}
 use Rattle.packing.proofs.Records.{table-at}
 use Rattle.packing.proofs.CleanRuns.{bare-clean}
-use Rattle.packing.proofs.ListRuns.{ListStep, step-same, step-next, list-past}
+use Rattle.packing.proofs.RowRuns.{ListStep, step-same, step-next, row-past}
 use Rattle.packing.proofs.clean.past_lists.Statement.{statement}
 use Rattle.packing.proofs.clean.past_lists.Tie as tie
 
 abbrev Inv-loop : tie.InvT-loop
 Inv-loop p starts₀ n table records next₀ t₀ head₀ used₀ starts next t head used =
     (next ≤ length p / 64)
-    × (ListTable t × ((head ≡ t * 16777216) × ((used ≡ shapeOf t .used) × ListRun p table n starts₀ t next starts)))
+    × (ListTable t × ((head ≡ t * 16777216) × ((used ≡ shapeOf t .used) × RowRun p table n starts₀ t next starts)))
 
 abbrev μ-loop : tie.MeasureT-loop
 μ-loop p starts₀ n table records next₀ t₀ head₀ used₀ starts next t head used = length p / 64 - next
@@ -32,8 +32,8 @@ joined c =
     let v = l .inv in
     let d = v .1 .1 .0 in
     ⊎-elim
-    (λ w. let a = neither _ _ (w .1 .left) in let h = leb-false 22 (l .t) (a .0) in let e = eqb-true (c .before .word-inside .result) (l .head + 16777216) (not-false _ (a .1)) in rw (w .5, w .4, w .6, w .7) (step-next (v .1 .1 .1 .1) (v .1 .0) h (omega arith) (w .3 .ensures .0 ∙ ap (λ (x : Shape). x .used) (w .2 .ensures)) (sym (c .before .word-inside .ensures))))
-    (λ w. rw (w .2, w .1, w .3, w .4) (step-same (v .1 .1 .1 .1) (v .1 .0) d (v .1 .1 .1 .0) (sym (c .before .word-inside .ensures) ∙ w .0 .left)))
+    (λ w. let a = neither _ _ (w .1 .left) in let h = leb-false 22 (l .t) (a .0) in let f = v .1 .0 .from in let k = list-table (l .t + 1) (omega arith) (omega arith) in let e = eqb-true (c .before .word-inside .result) (l .head + 16777216) (not-false _ (a .1)) in rw (w .5, w .4, w .6, w .7) (record { table = k; headed = omega arith; bare = sym (c .before .word-inside .ensures); shaped = used-by _ (w .3 .ensures .0) (w .2 .ensures); step = step-next (v .1 .1 .1 .1) (list-row k) }))
+    (λ w. rw (w .2, w .1, w .3, w .4) (record { table = v .1 .0; headed = d; bare = sym (c .before .word-inside .ensures) ∙ w .0 .left; shaped = v .1 .1 .1 .0; step = step-same (v .1 .1 .1 .1) }))
     (c .if1 .came)
 
 loop-again : tie.Need-loop-again Inv-loop μ-loop
@@ -41,8 +41,8 @@ loop-again c =
     let s = c .before .before .before .before .before .before .before .before .before .before .before in
     let j = joined (c .before .before .before .before) in
     let z = not-false _ (rw (c .before .zeros-322 .ensures, c .before .before .zeros-32 .ensures, j .shaped) at (c .if3 .left)) in
-    let b = bare-clean (now (s .args .p)) _ _ (λ i. omega (arith, c .before .before .before .before .before .before .before .before .before .before .shared-slice-known .given i)) refl (j .table .shaped) (j .bare) z in
-    (search needs, (j .table, (j .headed, (j .shaped, j .more (table-at (now (s .args .p)) (c .before .before .before .before .before .before .before .loop .next) ∙ b .0) (b .1)))))
+    let b = bare-clean (now (s .args .p)) _ _ (λ i. omega (arith, c .before .before .before .before .before .before .before .before .before .before .shared-slice-known .given i)) refl (j .table .shaped) (j .bare ∙ j .headed) z in
+    (search needs, (j .table, (j .headed, (j .shaped, j .step .more (table-at (now (s .args .p)) (c .before .before .before .before .before .before .before .loop .next) ∙ b .0) (b .1)))))
 
 pub past-lists-spec : {M : Type 1} → statement M
 past-lists-spec =
@@ -54,11 +54,11 @@ past-lists-spec =
     (λ c. search needs)
     (λ c κs. search needs)
     (λ c κs. search needs)
-    (λ c. (search needs, (c .before .before .before .pre .1 .1, (refl, (c .wide .ensures .0 ∙ ap (λ (x : Shape). x .used) (c .before .shape-of .ensures), list-start)))))
+    (λ c. (search needs, (c .before .before .before .pre .1 .1, (refl, (used-by _ (c .wide .ensures .0) (c .before .shape-of .ensures), row-start)))))
     (λ c. search needs)
     (λ c κs. search needs)
     (λ c. search needs)
-    (λ c. let v = c .before .before .before .before .loop .inv in list-past (v .1 .1 .1 .1) (v .0))
+    (λ c. let v = c .before .before .before .before .loop .inv in row-past (v .1 .1 .1 .1) (v .0))
     (λ c. search needs)
     (λ c κs. search needs)
     (λ c κs. search needs)
@@ -72,8 +72,8 @@ past-lists-spec =
     (λ c. search needs)
     (λ c. search needs)
     (λ c κs. search needs)
-    (λ c. joined (c .before .before .before .before) .stop (c .before .before .before .before .before .before .before .loop .inv .0))
+    (λ c. joined (c .before .before .before .before) .step .stop (c .before .before .before .before .before .before .before .loop .inv .0))
     (λ c. search needs)
     (λ c. search needs)
     loop-again
-    (λ c. let v = c .before .loop .inv in list-past (v .1 .1 .1 .1) (v .0)))
+    (λ c. let v = c .before .loop .inv in row-past (v .1 .1 .1 .1) (v .0)))

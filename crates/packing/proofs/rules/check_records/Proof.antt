@@ -18,8 +18,8 @@ use Rattle.packing.proofs.Tables.{pack-length}
 use Rattle.packing.proofs.Records.{record-inside, record-end, table-at}
 use Rattle.packing.proofs.CheckRuns.{Left, left-all, left-past, left-stop, left-none, one-item}
 use Rattle.packing.proofs.Places.{run-decides, run-stray, run-named}
-use Rattle.packing.proofs.ListRuns.{list-after, list-decides}
-use Rattle.packing.proofs.EnclaveStarts.{Placed, Ready, placed-none, ready, placed-run, placed-lists, ready-still, placed-end}
+use Rattle.packing.proofs.RowRuns.{row-after, row-decides}
+use Rattle.packing.proofs.EnclaveStarts.{Placed, Ready, placed-none, ready, placed-run, placed-rows, ready-still, placed-end}
 use Rattle.packing.proofs.rules.check_records.Statement.{statement}
 use Rattle.packing.proofs.rules.check_records.Tie as tie
 
@@ -48,12 +48,12 @@ here c =
     let i = inside (c .before .before .before) in
     ready (c .before .before .before .before .before .before .before .before .before .before .before .pre) (c .before .before .before .before .before .before .before .loop .inv .1 .0) (i .0) (held (c .before .place-row .ensures .0) (c .if1 .left)) (i .1) (c .before .place-row .ensures .1 (not-false _ (c .if1 .left)))
 
--- so it is where no list was passed
+-- so it is where none was passed
 still : (c : tie.Joined2 Inv-loop μ-loop) → Ready (c .before .before .before .before .before .before .before .before .before .before .before .before .before .args .kind) (now (c .before .before .before .before .before .before .before .before .before .before .before .before .before .args .pack)) (c .if2 .found) (c .before .before .before .before .before .before .«record» .given .0 .0) (c .before .before .before .before .before .before .before .before .before .loop .n)
 still c =
     let h = here (c .before .before) in
     ⊎-elim
-    (λ w. rw (w .4) (ready-still (c .before .before .before .before .before .before .before .before .before .before .before .before .before .pre) h (c .before .is-list .ensures .1 (w .0 .taken)) (w .2 .ensures) (λ l. omega (arith, w .3 .left))))
+    (λ w. rw (w .4) (ready-still (c .before .before .before .before .before .before .before .before .before .before .before .before .before .pre) h (c .before .is-row .ensures .1 (w .0 .taken)) (w .2 .ensures) (λ l. omega (arith, w .3 .left))))
     (λ w. rw (w .1) h)
     (c .if2 .came)
 
@@ -87,18 +87,18 @@ returns-2 c =
     let v = c .before .before .before .before .before .before .before .loop .inv in
     (left-stop (v .1 .1) (search needs) (search needs) (one-item _ _ (fail (refused (c .before .place-row .ensures .0) (c .if1 .taken)))) refl, λ k. v .0)
 
--- lists are passed
+-- rows without identities are passed
 loop-again : tie.Need-loop-again Inv-loop μ-loop
 loop-again c =
     let s = c .before .before .before .before .before .before .before .before .before .before .before .before .before .before .before .before .before .before in
     let v = c .before .before .before .before .before .before .before .before .before .before .before .before .before .before .loop .inv in
     let h = here (c .before .before .before .before .before .before .before) in
-    let l = c .before .before .before .before .before .before .is-list .ensures .1 (c .before .before .before .before .before .if2 .taken) in
-    let y = c .before .before .before .past-lists .ensures in (
+    let l = c .before .before .before .before .before .before .is-row .ensures .1 (c .before .before .before .before .before .if2 .taken) in
+    let y = c .before .before .before .past-tables .ensures in (
       v .0,
       (
-        rw (c .wide .ensures .0 ∙ sym (table-at (now (s .args .pack)) (c .before .before .before .past-lists .result - 1))) (placed-lists (s .pre) h l y (c .before .before .if3 .taken)),
-        left-past (v .1 .1) (list-after (y .listed)) (y .inside) (list-decides (s .args .kind) l (h .here) _ _ (y .listed)) refl,
+        rw (c .wide .ensures .0 ∙ sym (table-at (now (s .args .pack)) (c .before .before .before .past-tables .result - 1))) (placed-rows (s .pre) h l y (c .before .before .if3 .taken)),
+        left-past (v .1 .1) (row-after (y .passed)) (y .inside) (row-decides (s .args .kind) l (h .here) _ _ (y .passed)) refl,
       ),
     )
 
@@ -150,7 +150,7 @@ check-records-spec =
     (λ c κs. (inside (c .before) .0, (few (c .before), (inside (c .before) .1, c .before .before .before .before .before .loop .inv .1 .0 .after))))
     returns-2
     (λ c κs. search needs)
-    (λ c κs. (inside (c .before .before .before .before .before .before) .0, (few (c .before .before .before .before .before .before), c .before .before .is-list .ensures .1 (c .before .if2 .taken))))
+    (λ c κs. (inside (c .before .before .before .before .before .before) .0, (few (c .before .before .before .before .before .before), c .before .before .is-row .ensures .1 (c .before .if2 .taken))))
     (λ c. search needs)
     (λ c. search needs)
     (λ c. search needs)
