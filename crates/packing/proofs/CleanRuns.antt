@@ -96,7 +96,7 @@ pub bare-clean : (p : List ℕ) {s : Shape} (t n : ℕ) → ((i : ℕ) → getD 
 bare-clean p {s} t n f i g e z =
     let h = bare-head p t (n * 64) f e in
     let l = g .half in
-    let y : zeros p (n * 64 + s .used) (64 - s .used) ≡ true = sym (zeros-tail p (n * 64) (s .used) 32 (omega arith) (omega arith)) ∙ z in
+    let y : zeros p (n * 64 + s .used) (64 - s .used) ≡ true = sym (zeros-tail p (n * 64) (s .used) 32 _ (omega arith) (omega arith) (omega arith)) ∙ z in
     let x : plainFrom s p (n * 64) ≡ true = rw (h .1 .0, h .1 .1 .0, h .1 .1 .1, y, le-leb 0 (s .bits) (omega arith), le-leb 0 (s .kinds) (omega arith)) in
     (h .0, sym (plain-clean p t n i g (h .0)) ∙ x)
 

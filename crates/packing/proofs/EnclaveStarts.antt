@@ -45,10 +45,10 @@ pub record Ready (kind : PackKind) (p s : List ℕ) (u n : ℕ) : Type 0 where
   pub here : inPlace kind p n ≡ true
   pub table : byteOf p n 0 ≡ u
 
-pub placed-none : (kind : PackKind) (p : List ℕ) → Placed kind p ones 26 0
-placed-none kind p =
+pub placed-none : (kind : PackKind) (p : List ℕ) (k : ℕ) → k ≡ 1 → Placed kind p (replicate 26 k) 26 0
+placed-none kind p k e =
     record {
-      none = λ _. refl;
+      none = λ _. rw e;
       rows = λ k h. absurd (h refl);
       after = record { none = λ _. refl; some = λ h. absurd (h refl) };
     }

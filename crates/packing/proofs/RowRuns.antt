@@ -119,17 +119,17 @@ module _ {p : List ℕ} {u n : ℕ} {s : List ℕ} {t next : ℕ} {w : List ℕ}
   pub step-same : RowStep p u n s t next w
   step-same = record { more = row-same x; stop = row-past x }
 
-  pub step-next : RowTable (t + 1) → RowStep p u n s (t + 1) next (set w (t + 1) next)
-  step-next k =
+  pub step-next : RowTable (t + 1) → (m : ℕ) → m ≡ next → RowStep p u n s (t + 1) next (set w (t + 1) m)
+  step-next k m e =
       record {
-        more = row-next x k;
+        more = rw e (row-next x k);
         stop = λ i. record {
           last = t;
           fixed = w;
           inside = i;
           passed = x;
           sized = simp length-set;
-          kept = take-set-le (t + 1) w (t + 1) next (omega arith);
+          kept = take-set-le (t + 1) w (t + 1) m (omega arith);
         };
       }
 

@@ -31,13 +31,13 @@ overlap p o m i =
     rw (zeros-add p o (m + i) m, zeros-add p o m i, zeros-add p (o + m) i m, e)
     (and-overlap (zeros p o m) (zeros p (o + m) i) (zeros p (o + m + i) m))
 
--- the bytes of a record from byte u on: the j from there, and the last j
-pub zeros-tail : (p : List ℕ) (s u j : ℕ) → u + j ≤ 64 → 64 ≤ u + (j + j) → (zeros p (s + u) j && zeros p (s + (64 - j)) j) ≡ zeros p (s + u) (64 - u)
-zeros-tail p s u j h l =
+-- the bytes of a record from byte u on: the j from there, and the last j, from place q
+pub zeros-tail : (p : List ℕ) (s u j q : ℕ) → q + j ≡ s + 64 → u + j ≤ 64 → 64 ≤ u + (j + j) → (zeros p (s + u) j && zeros p q j) ≡ zeros p (s + u) (64 - u)
+zeros-tail p s u j q g h l =
     let m = 64 - u - j in
     let i = u + j + j - 64 in
     let a : m + i ≡ j = omega arith in
-    let b : s + u + m ≡ s + (64 - j) = omega arith in
+    let b : s + u + m ≡ q = omega arith in
     let d : i + m ≡ j = omega arith in
     let e : m + i + m ≡ 64 - u = omega arith in
     rw (e, a, b, d) at (overlap p (s + u) m i)

@@ -161,7 +161,10 @@ pub fn past_lists(p: &[u8], starts: &mut TableStarts, n: usize, table: u8) -> us
     while next < records {
         let word = word_inside(p, next * 64);
         if word != head {
-            if (LAST_LIST <= t) | (word != head + 0x100_0000) {
+            if LAST_LIST <= t {
+                return next;
+            }
+            if word != head + 0x100_0000 {
                 return next;
             }
             t += 1;

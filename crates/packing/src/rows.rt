@@ -127,7 +127,10 @@ fn past_rows(p: &[u8], starts: &mut TableStarts, n: usize, table: u8) -> usize
     while next < records {
         let here = p[next * 64];
         if here != t {
-            if (ScopeImage::TABLE <= t) | (here != t + 1) {
+            if ScopeImage::TABLE <= t {
+                return next;
+            }
+            if here != t + 1 {
                 return next;
             }
             t += 1;

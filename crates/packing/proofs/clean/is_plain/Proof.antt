@@ -12,7 +12,7 @@ returns c = rw (refused (c .before .head-clean .ensures) (c .if1 .taken))
 returns-2 : tie.Need-returns-2
 returns-2 c =
     rw (c .zeros-322 .ensures, c .before .zeros-32 .ensures, c .before .before .wide .ensures .0, held (c .before .before .before .before .head-clean .ensures) (c .before .before .before .if1 .left))
-    (zeros-tail _ _ _ 32 (omega arith) (omega arith))
+    (zeros-tail _ _ _ 32 _ (omega arith) (omega arith) (omega arith))
 
 pub is-plain-spec : {M : Type 1} → statement M
 is-plain-spec =

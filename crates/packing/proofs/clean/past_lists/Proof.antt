@@ -4,12 +4,11 @@ use mathlib.Core.Path.{_≡_, refl, _∙_, sym}
 use mathlib.Core.Logic.{⊎-elim}
 use native.Mathlib.Omega.{arith}
 use borrow.Author.Needs.{needs}
-use borrow.Author.Tests.{leb-false, eqb-true, not-false}
+use borrow.Author.Tests.{not-false}
 use denote.Ref.{now}
 use lib.ListN.{length}
 use Rattle.packing.specs.Shape.{shapeOf}
 use Rattle.packing.specs.Runs.{ListTable, RowRun, row-start}
-use Rattle.packing.proofs.Tests.{neither}
 use Rattle.packing.proofs.Tables.{used-by, list-table, list-row}
 use Rattle.packing.proofs.Records.{table-at}
 use Rattle.packing.proofs.CleanRuns.{bare-clean}
@@ -32,7 +31,7 @@ joined c =
     let v = l .inv in
     let d = v .1 .1 .0 in
     ⊎-elim
-    (λ w. let a = neither _ _ (w .1 .left) in let h = leb-false 22 (l .t) (a .0) in let f = v .1 .0 .from in let k = list-table (l .t + 1) (omega arith) (omega arith) in let e = eqb-true (c .before .word-inside .result) (l .head + 16777216) (not-false _ (a .1)) in rw (w .5, w .4, w .6, w .7) (record { table = k; headed = omega arith; bare = sym (c .before .word-inside .ensures); shaped = used-by _ (w .3 .ensures .0) (w .2 .ensures); step = step-next (v .1 .1 .1 .1) (list-row k) }))
+    (λ w. let h = w .1 .left in let e = w .2 .left in let f = v .1 .0 .from in let k = list-table (l .t + 1) (omega arith) (omega arith) in rw (w .6, w .5, w .7, w .8) (record { table = k; headed = omega arith; bare = sym (c .before .word-inside .ensures); shaped = used-by _ (w .4 .ensures .0) (w .3 .ensures); step = step-next (v .1 .1 .1 .1) (list-row k) _ (omega arith) }))
     (λ w. rw (w .2, w .1, w .3, w .4) (record { table = v .1 .0; headed = d; bare = sym (c .before .word-inside .ensures) ∙ w .0 .left; shaped = v .1 .1 .1 .0; step = step-same (v .1 .1 .1 .1) }))
     (c .if1 .came)
 
@@ -40,7 +39,7 @@ loop-again : tie.Need-loop-again Inv-loop μ-loop
 loop-again c =
     let s = c .before .before .before .before .before .before .before .before .before .before .before in
     let j = joined (c .before .before .before .before) in
-    let z = not-false _ (rw (c .before .zeros-322 .ensures, c .before .before .zeros-32 .ensures, j .shaped) at (c .if3 .left)) in
+    let z = not-false _ (rw (c .before .zeros-322 .ensures, c .before .before .zeros-32 .ensures, j .shaped) at (c .if4 .left)) in
     let b = bare-clean (now (s .args .p)) _ _ (λ i. omega (arith, c .before .before .before .before .before .before .before .before .before .before .shared-slice-known .given i)) refl (j .table .shaped) (j .bare ∙ j .headed) z in
     (search needs, (j .table, (j .headed, (j .shaped, j .step .more (table-at (now (s .args .p)) (c .before .before .before .before .before .before .before .loop .next) ∙ b .0) (b .1)))))
 
@@ -54,11 +53,12 @@ past-lists-spec =
     (λ c. search needs)
     (λ c κs. search needs)
     (λ c κs. search needs)
-    (λ c. (search needs, (c .before .before .before .pre .1 .1, (refl, (used-by _ (c .wide .ensures .0) (c .before .shape-of .ensures), row-start)))))
+    (λ c. (search needs, (c .before .before .before .pre .1 .1, (omega arith, (used-by _ (c .wide .ensures .0) (c .before .shape-of .ensures), row-start)))))
     (λ c. search needs)
     (λ c κs. search needs)
-    (λ c. search needs)
     (λ c. let v = c .before .before .before .before .loop .inv in row-past (v .1 .1 .1 .1) (v .0))
+    (λ c. search needs)
+    (λ c. let v = c .before .before .before .before .before .loop .inv in row-past (v .1 .1 .1 .1) (v .0))
     (λ c. search needs)
     (λ c κs. search needs)
     (λ c κs. search needs)

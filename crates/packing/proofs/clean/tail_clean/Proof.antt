@@ -11,17 +11,17 @@ use Rattle.packing.proofs.clean.tail_clean.Tie as tie
 returns : tie.Need-returns
 returns c =
     rw (c .zeros-322 .ensures, c .before .zeros-32 .ensures, c .before .before .before .wide .ensures .0)
-    (zeros-tail _ _ _ 32 (omega arith) (omega arith))
+    (zeros-tail _ _ _ 32 _ (omega arith) (omega arith) (omega arith))
 
 returns-2 : tie.Need-returns-2
 returns-2 c =
     rw (c .zeros-162 .ensures, c .before .zeros-16 .ensures, c .before .before .before .before .wide .ensures .0)
-    (zeros-tail _ _ _ 16 (omega arith) (omega arith))
+    (zeros-tail _ _ _ 16 _ (omega arith) (omega arith) (omega arith))
 
 returns-3 : tie.Need-returns-3
 returns-3 c =
     rw (c .zeros-82 .ensures, c .before .zeros-8 .ensures, c .before .before .before .before .before .wide .ensures .0)
-    (zeros-tail _ _ _ 8 (omega arith) (omega arith))
+    (zeros-tail _ _ _ 8 _ (omega arith) (omega arith) (omega arith))
 
 returns-4 : tie.Need-returns-4
 returns-4 c =

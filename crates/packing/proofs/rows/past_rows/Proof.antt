@@ -1,15 +1,14 @@
 -- `packing::rows::past_rows` meets its contract. Assumes nothing.
-use Prim.Native.Nat.{_+_, _*_, _-_, _/_, _≤_}
+use Prim.Native.Nat.{_+_, _-_, _/_, _≤_}
 use mathlib.Core.Path.{_≡_, _∙_, sym}
 use mathlib.Core.Logic.{⊎-elim}
 use native.Mathlib.Omega.{arith}
 use borrow.Author.Needs.{needs}
-use borrow.Author.Tests.{leb-false, eqb-true, not-false}
 use denote.Ref.{now}
-use lib.ListN.{length, getD}
+use lib.ListN.{length}
 use Rattle.schema.specs.Rows.{byteOf}
 use Rattle.packing.specs.Runs.{RowRun, row-start}
-use Rattle.packing.proofs.Tests.{neither, held}
+use Rattle.packing.proofs.Tests.{held}
 use Rattle.packing.proofs.Tables.{row-table}
 use Rattle.packing.proofs.Records.{table-at}
 use Rattle.packing.proofs.RowRuns.{RowStep, step-same, step-next, row-past}
@@ -30,7 +29,7 @@ joined c =
     let l = c .before .before .before .loop in
     let v = l .inv in
     ⊎-elim
-    (λ w. let a = neither _ _ (w .1 .left) in let h = leb-false 7 (l .t) (a .0) in let e = eqb-true (getD p (l .next * 64) 0) (l .t + 1) (not-false _ (a .1)) in rw (w .3, w .2) ((search needs, search needs), (sym (table-at p (l .next) ∙ e), step-next (v .1 .1 .1) (row-table (l .t + 1) (search needs) (omega arith)))))
+    (λ w. let h = w .1 .left in let e = w .2 .left in rw (w .4, w .3) ((search needs, omega arith), (omega (arith, table-at p (l .next)), step-next (v .1 .1 .1) (row-table (l .t + 1) (search needs) (omega arith)) _ (omega arith))))
     (λ w. rw (w .2, w .1) ((v .1 .0, v .1 .1 .0), (sym (table-at p (l .next) ∙ w .0 .left), step-same (v .1 .1 .1))))
     (c .if1 .came)
 
@@ -43,16 +42,17 @@ past-rows-spec =
     (λ c. (search needs, (c .before .pre .1 .1 .0, (c .before .pre .1 .1 .1, row-start))))
     (λ c. search needs)
     (λ c. search needs)
-    (λ c. search needs)
     (λ c. let v = c .before .before .before .before .loop .inv in row-past (v .1 .1 .1) (v .0))
     (λ c. search needs)
+    (λ c. let v = c .before .before .before .before .before .loop .inv in row-past (v .1 .1 .1) (v .0))
     (λ c. search needs)
     (λ c. search needs)
     (λ c. search needs)
     (λ c. search needs)
-    (λ c κs. let j = joined c in (search needs, (j .1 .0, j .0)))
+    (λ c. search needs)
+    (λ c κs. let j = joined c in let e = j .1 .0 in (search needs, (search needs, j .0)))
     (λ c. joined (c .before .before) .1 .1 .stop (c .before .before .before .before .before .loop .inv .0))
     (λ c. search needs)
     (λ c. search needs)
-    (λ c. let j = joined (c .before .before) in (search needs, (j .0 .0, (j .0 .1, j .1 .1 .more (sym (j .1 .0)) (held (c .before .row-clean .ensures) (c .if3 .left))))))
+    (λ c. let j = joined (c .before .before) in (search needs, (j .0 .0, (j .0 .1, j .1 .1 .more (sym (j .1 .0)) (held (c .before .row-clean .ensures) (c .if4 .left))))))
     (λ c. let v = c .before .loop .inv in row-past (v .1 .1 .1) (v .0)))

@@ -41,7 +41,7 @@ tail : (c : tie.After-zeros-322) → c .before .zeros-32 .result && c .zeros-322
 tail c =
     let h = here (c .before .before) in
     let l = h .1 .half in
-    rw (c .zeros-322 .ensures, c .before .zeros-32 .ensures, h .0) (zeros-tail _ _ _ 32 (omega arith) (omega arith))
+    rw (c .zeros-322 .ensures, c .before .zeros-32 .ensures, h .0) (zeros-tail _ _ _ 32 _ (omega arith) (omega arith) (omega arith))
 
 pub plain-clean-spec : {M : Type 1} → statement M
 plain-clean-spec =

@@ -23,7 +23,7 @@ tail : (c : tie.After-zeros-162) → c .before .zeros-16 .result && c .zeros-162
 unfolding layouts
 tail c =
     rw (c .zeros-162 .ensures, c .before .zeros-16 .ensures, c .before .before .wide .ensures .0, c .before .before .before .shape-of .ensures)
-    (zeros-tail _ _ _ 16 (omega arith) (omega arith))
+    (zeros-tail _ _ _ 16 _ (omega arith) (omega arith) (omega arith))
 
 pub reactor-clean-spec : {M : Type 1} → statement M
 reactor-clean-spec =

@@ -94,10 +94,12 @@ loop-again c =
     let v = c .before .before .before .before .before .before .before .before .before .before .before .before .before .before .loop .inv in
     let h = here (c .before .before .before .before .before .before .before) in
     let l = c .before .before .before .before .before .before .is-row .ensures .1 (c .before .before .before .before .before .if2 .taken) in
-    let y = c .before .before .before .past-tables .ensures in (
+    let y = c .before .before .before .past-tables .ensures in
+    let m = c .before .before .before .past-tables .result - 1 in
+    let e : c .wide .result ≡ byteOf (now (s .args .pack)) m 0 = omega (arith, c .wide .ensures .0, table-at (now (s .args .pack)) m) in (
       v .0,
       (
-        rw (c .wide .ensures .0 ∙ sym (table-at (now (s .args .pack)) (c .before .before .before .past-tables .result - 1))) (placed-rows (s .pre) h l y (c .before .before .if3 .taken)),
+        rw e (placed-rows (s .pre) h l y (c .before .before .if3 .taken)),
         left-past (v .1 .1) (row-after (y .passed)) (y .inside) (row-decides (s .args .kind) l (h .here) _ _ (y .passed)) refl,
       ),
     )
@@ -140,7 +142,7 @@ check-records-spec =
     (tie.spec
     Inv-loop
     μ-loop
-    (λ c. (refl, (placed-none _ _, left-all _ _)))
+    (λ c. (refl, (placed-none _ _ _ (omega arith), left-all _ _)))
     (λ c κs. search needs)
     (λ c. search needs)
     (λ c. search needs)

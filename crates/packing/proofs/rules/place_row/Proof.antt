@@ -3,6 +3,7 @@ use Prim.Native.Nat.{_<_}
 use mathlib.Core.Bool.{true≢false}
 use mathlib.Core.Path.{_≡_, _∙_, sym}
 use native.Mathlib.Omega.{arith}
+use lib.Dec.{eqb}
 use borrow.Author.Needs.{needs}
 use borrow.Author.Tests.{ltb-true, eqb-true}
 use denote.Ref.{now}
@@ -15,9 +16,9 @@ use Rattle.packing.proofs.rules.place_row.Tie as tie
 -- the record is of table t
 own : (c : tie.Then1) → (c .before .before .before .args .table ≡ c .before .before .before .args .t) × (c .before .before .before .args .t < 25)
 own c =
-    let b = both _ _ (c .if1 .taken) in
+    let b = both (eqb (c .before .wide .result) (c .before .before .before .args .t)) _ (c .if1 .taken) in
     let e = eqb-true (c .before .wide .result) (c .before .before .before .args .t) (b .0) in
-    let l = ltb-true (c .before .wide .result) 25 (b .1) in
+    let l = ltb-true (c .before .wide .result) _ (b .1) in
     (sym (c .before .wide .ensures .0) ∙ e, omega arith)
 
 returns : tie.Need-returns
