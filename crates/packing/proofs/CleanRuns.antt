@@ -107,7 +107,7 @@ parts-turned true false absent kind = refl
 parts-turned false true absent kind = refl
 parts-turned false false absent kind = refl
 
-clean-parts : (p : List ℕ) (t n : ℕ) → t ≡ byteOf p n 0 → clean p n ≡ tailClean (layoutOf t) p n && (fieldsClean (layoutOf t) p n && kindClean t p n)
+pub clean-parts : (p : List ℕ) (t n : ℕ) → t ≡ byteOf p n 0 → clean p n ≡ tailClean (layoutOf t) p n && (fieldsClean (layoutOf t) p n && kindClean t p n)
 unfolding clean
 clean-parts p t n e = rw (← e) (parts-turned (headClean (layoutOf t) p n) (tailClean (layoutOf t) p n) _ (kindClean t p n))
 

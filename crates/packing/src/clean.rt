@@ -5,9 +5,9 @@ ghost use Prim.Native.Nat.{_+_, _*_, _-_, _/_, _%_, _<_, _≤_};
 ghost use lib.ListN.{length};
 ghost use lib.Dec.{ltb, leb, eqb};
 ghost use Rattle.schema.specs.Rows.{byteOf};
-ghost use Rattle.packing.specs.Shape.{shapeOf};
+ghost use Rattle.packing.specs.Shape.{layoutOf, shapeOf};
 ghost use Rattle.packing.specs.Clean.{zeros, clean};
-ghost use Rattle.packing.specs.Runs.{PlainShape, CleanRun, ListTable, RowsPast, plainFrom};
+ghost use Rattle.packing.specs.Runs.{PlainShape, CleanRun, ListTable, RowsPast, plainFrom, fieldsClean};
 use crate::shape::Governed;
 use crate::shape::LAST_LIST;
 use crate::shape::Shape;
@@ -60,7 +60,7 @@ fn zero_field(p: &[u8], at: usize, k: usize) -> bool
 }
 
 // Bytes 1 to 3.
-pub fn head_clean(shape: Shape, bits: u8, kind: u8, last: u8) -> bool
+fn head_clean(shape: Shape, bits: u8, kind: u8, last: u8) -> bool
     ensures { λ r. ⌜ r ≡ (leb bits (shape .bits) && (leb kind (shape .kinds) && eqb last 0)) ⌝ }
 {
     (bits <= shape.bits) & ((kind <= shape.kinds) & (last == 0))
@@ -88,7 +88,7 @@ fn tail_clean(p: &[u8], start: usize, used: u8) -> bool
 }
 
 // The fields that a presence bit governs.
-pub fn absent_clean(present: bool, p: &[u8], start: usize, governed: Governed) -> bool
+fn absent_clean(present: bool, p: &[u8], start: usize, governed: Governed) -> bool
     requires { ⌜ (start + 64 ≤ length (now p)) × ((governed .len % 4 ≡ 0) × ((governed .len ≤ 8) × (governed .offset + governed .len ≤ 64))) ⌝ }
     ensures { λ r. ⌜ r ≡ (present || zeros (now (p .entry)) (start + governed .offset) (governed .len)) ⌝ }
 {
@@ -96,6 +96,23 @@ pub fn absent_clean(present: bool, p: &[u8], start: usize, governed: Governed) -
         return true;
     }
     zero_field(p, start + wide(governed.offset), wide(governed.len))
+}
+
+// Bytes 1 to 3 of record n and the fields that its presence bits govern, by the shape of `table`: where that is a constant, the tests of the shape are compiled away.
+pub fn fields_clean(p: &[u8], n: usize, table: u8) -> bool
+    requires { ⌜ n < length (now p) / 64 ⌝ }
+    ensures { λ r. ⌜ r ≡ fieldsClean (layoutOf table) (now (p .entry)) n ⌝ }
+{
+    let start = n * 64;
+    let shape = shape_of(table);
+    let bits = p[start + 1];
+    if !head_clean(shape, bits, p[start + 2], p[start + 3]) {
+        return false;
+    }
+    if !absent_clean(bit(bits, 1), p, start, shape.bit_0) {
+        return false;
+    }
+    absent_clean(bit(bits, 2), p, start, shape.bit_1)
 }
 
 // The bit and the D of an action's timing.
@@ -126,15 +143,10 @@ pub fn clean(p: &[u8], n: usize, table: u8, shape: Shape) -> bool
     ensures { λ r. ⌜ r ≡ clean (now (p .entry)) n ⌝ }
 {
     let start = n * 64;
-    let bits = p[start + 1];
-    let kind = p[start + 2];
-    let bit_0 = bit(bits, 1);
-    let bit_1 = bit(bits, 2);
-    let head = head_clean(shape, bits, kind, p[start + 3]);
     let tail = tail_clean(p, start, shape.used);
-    let absent_0 = absent_clean(bit_0, p, start, shape.bit_0);
-    let absent_1 = absent_clean(bit_1, p, start, shape.bit_1);
-    (head & (tail & (absent_0 & absent_1))) & kind_clean(table, p, start, bit_1, kind)
+    let fields = fields_clean(p, n, table);
+    let bit_1 = bit(p[start + 1], 2);
+    tail & (fields & kind_clean(table, p, start, bit_1, p[start + 2]))
 }
 
 // Whether the record at `start` is clean, by a shape that governs no field and uses at most half of it.

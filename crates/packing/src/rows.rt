@@ -3,11 +3,9 @@ ghost use mathlib.Core.Path.{_≡_};
 ghost use Prim.Native.Nat.{_/_, _<_, _≤_};
 ghost use lib.ListN.{length};
 ghost use Rattle.schema.specs.Rows.{byteOf};
-ghost use Rattle.packing.specs.Shape.{layoutOf};
 ghost use Rattle.packing.specs.Clean.{clean};
-ghost use Rattle.packing.specs.Runs.{RowTable, RowsPast, fieldsClean};
-use crate::clean::absent_clean;
-use crate::clean::head_clean;
+ghost use Rattle.packing.specs.Runs.{RowTable, RowsPast};
+use crate::clean::fields_clean;
 use crate::clean::past_lists;
 use crate::clean::timing_clean;
 use crate::clean::wide;
@@ -24,24 +22,7 @@ use schema::rows::ReactionImage;
 use schema::rows::ReactorImage;
 use schema::rows::ScopeImage;
 
-// Bytes 1 to 3 of record n and the fields that its presence bits govern, by the shape of `table`: a constant in each call, so that the tests of the shape are compiled away.
-fn fields_clean(p: &[u8], n: usize, table: u8) -> bool
-    requires { ⌜ n < length (now p) / 64 ⌝ }
-    ensures { λ r. ⌜ r ≡ fieldsClean (layoutOf table) (now (p .entry)) n ⌝ }
-{
-    let start = n * 64;
-    let shape = shape_of(table);
-    let bits = p[start + 1];
-    if !head_clean(shape, bits, p[start + 2], p[start + 3]) {
-        return false;
-    }
-    if !absent_clean(bit(bits, 1), p, start, shape.bit_0) {
-        return false;
-    }
-    absent_clean(bit(bits, 2), p, start, shape.bit_1)
-}
-
-// Whether record n, of the table named, is clean. A scope's fields fill the record.
+// Whether record n, of the table in the name, is clean. A scope's fields fill the record.
 fn reactor_clean(p: &[u8], n: usize) -> bool
     requires { ⌜ (n < length (now p) / 64) × (byteOf (now p) n 0 ≡ 2) ⌝ }
     ensures { λ r. ⌜ r ≡ clean (now (p .entry)) n ⌝ }

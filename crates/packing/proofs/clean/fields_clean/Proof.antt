@@ -1,4 +1,4 @@
--- `packing::rows::fields_clean` meets its contract. Assumes nothing.
+-- `packing::clean::fields_clean` meets its contract. Assumes nothing.
 use mathlib.Core.Path.{_≡_}
 use borrow.Author.Needs.{needs}
 use denote.Ref.{now}
@@ -6,8 +6,8 @@ use Rattle.packing.specs.Shape.{layoutOf}
 use Rattle.packing.specs.Clean.{headClean, absentClean}
 use Rattle.packing.proofs.Tests.{refused, held}
 use Rattle.packing.proofs.Tables.{inside-0, inside-1}
-use Rattle.packing.proofs.rows.fields_clean.Statement.{statement}
-use Rattle.packing.proofs.rows.fields_clean.Tie as tie
+use Rattle.packing.proofs.clean.fields_clean.Statement.{statement}
+use Rattle.packing.proofs.clean.fields_clean.Tie as tie
 
 head : (c : tie.After-head-clean) → c .head-clean .result ≡ headClean (layoutOf (c .before .before .before .before .before .before .args .table)) (now (c .before .before .before .before .before .before .args .p)) (c .before .before .before .before .before .before .args .n)
 head c = rw (c .before .before .before .before .shape-of .ensures) at (c .head-clean .ensures)
