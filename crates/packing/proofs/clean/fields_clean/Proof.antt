@@ -10,10 +10,10 @@ use Rattle.packing.proofs.clean.fields_clean.Statement.{statement}
 use Rattle.packing.proofs.clean.fields_clean.Tie as tie
 
 head : (c : tie.After-head-clean) → c .head-clean .result ≡ headClean (layoutOf (c .before .before .before .before .before .before .args .table)) (now (c .before .before .before .before .before .before .args .p)) (c .before .before .before .before .before .before .args .n)
-head c = rw (c .before .before .before .before .shape-of .ensures) at (c .head-clean .ensures)
+head c = rw (c .head-clean .ensures, c .before .before .before .before .shape-of .ensures)
 
 absent : (c : tie.After-absent-clean) → c .absent-clean .result ≡ absentClean 0 (layoutOf (c .before .before .before .before .before .before .before .before .before .args .table)) (now (c .before .before .before .before .before .before .before .before .before .args .p)) (c .before .before .before .before .before .before .before .before .before .args .n)
-absent c = rw (c .before .before .before .before .before .before .before .shape-of .ensures, c .before .bit .ensures) at (c .absent-clean .ensures)
+absent c = rw (c .absent-clean .ensures, c .before .bit .ensures, c .before .before .before .before .before .before .before .shape-of .ensures)
 
 pub fields-clean-spec : {M : Type 1} → statement M
 fields-clean-spec =
