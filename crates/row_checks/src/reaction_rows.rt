@@ -10,6 +10,9 @@ ghost use Rattle.row_checks.specs.Fits.{Fits};
 ghost use Rattle.row_checks.specs.Reactions.{effectChecks, reactionOwnerChecks, reactionEndsBefore, reactionRangeChecks, reactionChecks};
 ghost use Rattle.schema.specs.Rows.{Whole};
 use crate::bindings::same_kind;
+use crate::reactions::ReactionEnds;
+use crate::reactions::check_reaction;
+use crate::reactions::ends_before;
 use answers::Outcome;
 use checks::refs;
 use range::SliceRange;
@@ -27,13 +30,12 @@ use schema::rows::ReactorImage;
 use schema::rows::RequiredBindingImage;
 use schema::rows::ScopeImage;
 
-// Whether a range lies in a table of so many rows, and not before the end of the range before it.
-fn fits(range: SliceRange, before: SliceRange, rows: u32) -> bool
-    ensures { λ r. ⌜ (r ≡ true → Fits rows range before) ⌝ }
+// Whether a range lies in a table of so many rows, and not before the end of the range of the row before.
+fn fits(range: SliceRange, previous: u64, rows: u32) -> bool
+    ensures { λ r. ⌜ (r ≡ true → Fits rows range previous) ⌝ }
 {
     let start = range.start as u64;
     let end = start + range.len as u64;
-    let previous = before.start as u64 + before.len as u64;
     (end <= rows as u64) & (previous <= start)
 }
 
@@ -84,42 +86,38 @@ fn effect_passes(p: &[u8], s: &TableStarts, i: u32) -> bool
     owner.0 == reactor.0
 }
 
-// The four ranges lie in their tables, each after the one of the row before; the first row is left to the full check.
-fn ranges_pass(p: &[u8], s: &TableStarts, i: u32) -> bool
+// The four ranges lie in their tables, each after the one of the row before.
+fn ranges_pass(p: &[u8], s: &TableStarts, i: u32, previous: ReactionEnds) -> bool
     requires { ⌜ Rising (now s) × (Within (now p) (now s) × (i < rowsOf (now s) 5)) ⌝ }
-    ensures { λ r. ⌜ PassesIf (reactionRangeChecks (rowsOf (now (s .entry))) i (reactionsAt (now (p .entry)) (now (s .entry)) i) (reactionEndsBefore (reactionsAt (now (p .entry)) (now (s .entry))) i)) r ⌝ }
+    ensures { λ r. ⌜ PassesIf (reactionRangeChecks (rowsOf (now (s .entry))) i (reactionsAt (now (p .entry)) (now (s .entry)) i) previous) r ⌝ }
 {
-    if i == 0 {
-        return false;
-    }
     let n = refs::row_of(s, ReactionImage::TABLE, i);
-    let m = refs::row_of(s, ReactionImage::TABLE, i - 1);
     let uses = fits(
         parts::reaction_use_ports_of(p, n),
-        parts::reaction_use_ports_of(p, m),
+        previous.uses,
         refs::rows_of(s, ReactionUsePort::TABLE),
     );
     let effects = fits(
         parts::reaction_effect_ports_of(p, n),
-        parts::reaction_effect_ports_of(p, m),
+        previous.effects,
         refs::rows_of(s, ReactionEffectPort::TABLE),
     );
     let actions = fits(
         parts::reaction_actions_of(p, n),
-        parts::reaction_actions_of(p, m),
+        previous.actions,
         refs::rows_of(s, ReactionAction::TABLE),
     );
     let enabled = fits(
         parts::reaction_enabled_modes_of(p, n),
-        parts::reaction_enabled_modes_of(p, m),
+        previous.enabled,
         refs::rows_of(s, ReactionMode::TABLE),
     );
     (uses & effects) & (actions & enabled)
 }
 
-// Row i of the reactions.
-fn reaction_passes(p: &[u8], s: &TableStarts, i: u32) -> bool
-    requires { ⌜ Rising (now s) × (Within (now p) (now s) × (i < rowsOf (now s) 5)) ⌝ }
+// Row i of the reactions, after a row whose ranges end there.
+fn reaction_passes(p: &[u8], s: &TableStarts, i: u32, previous: ReactionEnds) -> bool
+    requires { ⌜ Rising (now s) × (Within (now p) (now s) × ((i < rowsOf (now s) 5) × (previous ≡ reactionEndsBefore (reactionsAt (now p) (now s)) i))) ⌝ }
     ensures { λ r. ⌜ PassesIf (reactionChecks (image (now (p .entry)) [] [] (now (s .entry)) 0) i) r ⌝ }
 {
     if !owner_passes(p, s, i) {
@@ -128,7 +126,7 @@ fn reaction_passes(p: &[u8], s: &TableStarts, i: u32) -> bool
     if !effect_passes(p, s, i) {
         return false;
     }
-    ranges_pass(p, s, i)
+    ranges_pass(p, s, i, previous)
 }
 
 // Every row of the reactions.
@@ -140,8 +138,9 @@ pub fn check_reactions(p: &[u8], s: &TableStarts) -> Outcome
     let mut i = 0;
     while i < rows {
         let next = i + 1;
-        if !reaction_passes(p, s, i) {
-            let a = crate::reactions::check_reaction(p, s, i);
+        let previous = ends_before(p, s, i);
+        if !reaction_passes(p, s, i, previous) {
+            let a = check_reaction(p, s, i, previous);
             let Outcome::Passed = a else {
                 return a;
             };

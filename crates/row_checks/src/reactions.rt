@@ -37,7 +37,7 @@ pub struct ReactionEnds {
 }
 
 // Where the ranges of the row before end; 0 before the first row.
-fn ends_before(p: &[u8], s: &TableStarts, i: u32) -> ReactionEnds
+pub fn ends_before(p: &[u8], s: &TableStarts, i: u32) -> ReactionEnds
     requires { ⌜ Rising (now s) × (Within (now p) (now s) × (i < rowsOf (now s) 5)) ⌝ }
     ensures { λ r. ⌜ r ≡ reactionEndsBefore (reactionsAt (now (p .entry)) (now (s .entry))) i ⌝ }
 {
@@ -222,11 +222,11 @@ fn check_reaction_row(
     check_reaction_ranges(s, i, row, previous)
 }
 
-// Row i of the reactions.
-pub fn check_reaction(p: &[u8], s: &TableStarts, i: u32) -> Outcome
-    requires { ⌜ Whole (now p) × (Rising (now s) × (Within (now p) (now s) × (i < rowsOf (now s) 5))) ⌝ }
+// Row i of the reactions, after a row whose ranges end there.
+pub fn check_reaction(p: &[u8], s: &TableStarts, i: u32, previous: ReactionEnds) -> Outcome
+    requires { ⌜ Whole (now p) × (Rising (now s) × (Within (now p) (now s) × (previous ≡ reactionEndsBefore (reactionsAt (now p) (now s)) i))) ⌝ }
     ensures { λ r. ⌜ Decides (reactionChecks (image (now (p .entry)) [] [] (now (s .entry)) 0) i) r ⌝ }
 {
     let row = read::reaction_at(p, refs::row_number(s, ReactionImage::TABLE, i));
-    check_reaction_row(p, s, i, row, ends_before(p, s, i))
+    check_reaction_row(p, s, i, row, previous)
 }

@@ -26,6 +26,7 @@ check-reactions-spec =
     (λ c. omega arith)
     (λ c κs. search needs)
     (λ c κs. (search needs, (search needs, (search needs, search needs))))
+    (λ c κs. (search needs, (search needs, (search needs, search needs))))
     (λ c. search needs)
     (λ c. search needs)
     (λ c. search loop-laws)

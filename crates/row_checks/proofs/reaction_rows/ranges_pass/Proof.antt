@@ -1,41 +1,34 @@
 -- `row_checks::reaction_rows::ranges_pass` meets its contract. Assumes nothing.
 use mathlib.Core.Path.{refl}
-use native.Mathlib.Omega.{arith}
-use borrow.Author.Tests.{ne-eqb}
 use denote.Ref.{now}
 use Rattle.answers.specs.Fields as field
 use Rattle.answers.proofs.Laws.{skip}
-use Rattle.answers.proofs.Quick.{unsure, sure}
+use Rattle.answers.proofs.Quick.{sure}
 use Rattle.checks.specs.Image.{rowsOf}
-use Rattle.row_checks.specs.Reactions.{reactionEndsBefore}
 use Rattle.row_checks.proofs.QuickLaws.{both, fits-passes}
 use borrow.Author.Needs.{needs}
 use Rattle.row_checks.proofs.reaction_rows.ranges_pass.Statement.{statement}
 use Rattle.row_checks.proofs.reaction_rows.ranges_pass.Tie as tie
 
-returns-2 : tie.Need-returns-2
-unfolding reactionEndsBefore
-returns-2 c =
-    let a = c .before .before .before .before .before .before .before .before .before .before .before .before .before .before .before .before .before .before .before .before .args in
+returns : tie.Need-returns
+returns c =
+    let a = c .before .before .before .before .before .before .before .before .before .before .before .before .before .before .args in
     let rows = rowsOf (now (a .s)) in
     let i = a .i in
-    rw (ne-eqb _ _ (c .before .before .before .before .before .before .before .before .before .before .before .before .before .before .before .before .before .before .if1 .left), ← c .before .before .before .before .before .before .before .before .before .before .before .before .before .before .before .before .before .row-of .ensures .0, ← c .before .before .before .before .before .before .before .before .before .before .before .before .before .before .before .before .row-of2 .ensures .0, ← c .before .before .before .before .before .before .before .before .before .before .before .before .before .before .before .reaction-use-ports-of .ensures, ← c .before .before .before .before .before .before .before .before .before .before .before .before .before .before .reaction-use-ports-of2 .ensures, ← c .before .before .before .before .before .before .before .before .before .before .before .reaction-effect-ports-of .ensures, ← c .before .before .before .before .before .before .before .before .before .before .reaction-effect-ports-of2 .ensures, ← c .before .before .before .before .before .before .before .reaction-actions-of .ensures, ← c .before .before .before .before .before .before .reaction-actions-of2 .ensures, ← c .before .before .before .reaction-enabled-modes-of .ensures, ← c .before .before .reaction-enabled-modes-of2 .ensures)
+    rw (← c .before .before .before .before .before .before .before .before .before .before .before .before .row-of .ensures .0, ← c .before .before .before .before .before .before .before .before .before .before .before .reaction-use-ports-of .ensures, ← c .before .before .before .before .before .before .before .before .reaction-effect-ports-of .ensures, ← c .before .before .before .before .before .reaction-actions-of .ensures, ← c .before .before .reaction-enabled-modes-of .ensures)
     (sure (λ e.
     let h = both _ _ e in
     let x = both _ _ (h .0) in
     let y = both _ _ (h .1) in
-    skip (fits-passes rows 5 i field.usePorts 9 (c .before .before .before .before .before .before .before .before .before .before .before .before .fits2 .ensures (x .0)) (c .before .before .before .before .before .before .before .before .before .before .before .before .before .rows-of .ensures)) refl
-    (skip (fits-passes rows 5 i field.effectPorts 10 (c .before .before .before .before .before .before .before .before .fits3 .ensures (x .1)) (c .before .before .before .before .before .before .before .before .before .rows-of2 .ensures)) refl
-    (skip (fits-passes rows 5 i field.actions 11 (c .before .before .before .before .fits4 .ensures (y .0)) (c .before .before .before .before .before .rows-of3 .ensures)) refl
+    skip (fits-passes rows 5 i field.usePorts 9 (c .before .before .before .before .before .before .before .before .before .fits2 .ensures (x .0)) (c .before .before .before .before .before .before .before .before .before .before .rows-of .ensures)) refl
+    (skip (fits-passes rows 5 i field.effectPorts 10 (c .before .before .before .before .before .before .fits3 .ensures (x .1)) (c .before .before .before .before .before .before .before .rows-of2 .ensures)) refl
+    (skip (fits-passes rows 5 i field.actions 11 (c .before .before .before .fits4 .ensures (y .0)) (c .before .before .before .before .rows-of3 .ensures)) refl
     (fits-passes rows 5 i field.enabledModes 12 (c .fits5 .ensures (y .1)) (c .before .rows-of4 .ensures))))))
 
 pub ranges-pass-spec : {M : Type 1} → statement M
 ranges-pass-spec =
     tie.close
     (tie.spec
-    (λ c. unsure)
-    (λ c κs. search needs)
-    (λ c. search needs)
     (λ c κs. search needs)
     (λ c κs. search needs)
     (λ c κs. search needs)
@@ -45,12 +38,8 @@ ranges-pass-spec =
     (λ c κs. search needs)
     (λ c κs. search needs)
     (λ c κs. search needs)
-    (λ c κs. omega (arith, c .before .before .before .before .before .before .before .before .before .row-of .ensures .1, c .before .before .before .before .before .before .before .before .before .before .before .before .pre .1 .0))
-    (λ c κs. omega (arith, c .before .before .before .before .before .before .before .before .before .row-of2 .ensures .1, c .before .before .before .before .before .before .before .before .before .before .before .before .before .pre .1 .0))
-    (λ c κs. (c .before .before .before .before .before .before .before .before .before .before .before .before .before .before .pre .0, omega arith))
     (λ c κs. search needs)
-    (λ c κs. omega (arith, c .before .before .before .before .before .before .before .before .before .before .before .before .before .row-of .ensures .1, c .before .before .before .before .before .before .before .before .before .before .before .before .before .before .before .before .pre .1 .0))
-    (λ c κs. omega (arith, c .before .before .before .before .before .before .before .before .before .before .before .before .before .row-of2 .ensures .1, c .before .before .before .before .before .before .before .before .before .before .before .before .before .before .before .before .before .pre .1 .0))
-    (λ c κs. (c .before .before .before .before .before .before .before .before .before .before .before .before .before .before .before .before .before .before .pre .0, omega arith))
     (λ c κs. search needs)
-    returns-2)
+    (λ c κs. search needs)
+    (λ c κs. search needs)
+    returns)

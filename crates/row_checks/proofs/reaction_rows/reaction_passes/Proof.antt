@@ -14,7 +14,7 @@ returns-3 c =
     sure (λ e.
     skip (surely (c .before .before .before .before .owner-passes .ensures) (not-false _ (c .before .before .before .if1 .left))) refl
     (skip (surely (c .before .before .effect-passes .ensures) (not-false _ (c .before .if2 .left))) refl
-    (surely (c .ranges-pass .ensures) e)))
+    (rw (c .before .before .before .before .before .before .pre .1 .1 .1) at (surely (c .ranges-pass .ensures) e))))
 
 pub reaction-passes-spec : {M : Type 1} → statement M
 reaction-passes-spec =

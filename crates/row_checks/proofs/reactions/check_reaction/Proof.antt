@@ -6,13 +6,12 @@ use Rattle.row_checks.proofs.reactions.check_reaction.Tie as tie
 
 returns : tie.Need-returns
 unfolding reactionChecks
-returns c = rw (← c .before .before .before .row-number .ensures, ← c .before .before .reaction-at .ensures, ← c .before .ends-before .ensures) (c .check-reaction-row .ensures)
+returns c = rw (← c .before .before .row-number .ensures, ← c .before .reaction-at .ensures, ← c .before .before .before .before .pre .1 .1 .1) (c .check-reaction-row .ensures)
 
 pub check-reaction-spec : {M : Type 1} → statement M
 check-reaction-spec =
     tie.close
     (tie.spec
-    (λ c κs. search needs)
     (λ c κs. search needs)
     (λ c κs. search needs)
     (λ c κs. search needs)
