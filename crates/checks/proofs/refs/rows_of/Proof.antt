@@ -1,5 +1,4 @@
 -- `checks::refs::rows_of` meets its contract. Assumes nothing.
-use native.Mathlib.Omega.{arith}
 use borrow.Author.Needs.{needs}
 use Rattle.checks.proofs.refs.rows_of.Statement.{statement}
 use Rattle.checks.proofs.refs.rows_of.Tie as tie
