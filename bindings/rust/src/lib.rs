@@ -78,40 +78,34 @@ extern "C" {
     ) -> u32;
 }
 
-/// Lets a check write its answer's numbers, and says how many they are.
-fn run(check: Check, lent: [&[u8]; 3], numbers: &mut [u64; 8]) -> usize {
+/// What a check wrote: how many numbers, and the numbers.
+fn numbers(check: Check, lent: [&[u8]; 3]) -> Refusal {
     let [pack, batch, house] = lent;
-    // SAFETY: each pointer has its own slice's length, nothing writes a slice while it is lent, and `numbers` is this call's alone.
+    let mut written = [0; 8];
+    // SAFETY: each pointer has its own slice's length, nothing writes a slice while it is lent, and `written` is this call's alone.
     let len = unsafe {
-        check(pack.as_ptr(), pack.len(), batch.as_ptr(), batch.len(), house.as_ptr(), house.len(), numbers)
-    };
-    len as usize
-}
-
-/// The refusal that a check wrote.
-fn refusal(len: usize, numbers: &[u64; 8]) -> Answer {
+        check(pack.as_ptr(), pack.len(), batch.as_ptr(), batch.len(), house.as_ptr(), house.len(), &mut written)
+    } as usize;
     // One by one: a plain copy reads two at once, and waits until both writes of 8 bytes have left the processor.
     // SAFETY: each is a reference to a number.
-    let values = numbers.each_ref().map(|number| unsafe { std::ptr::read_volatile(number) });
-    Answer::Refused(Refusal { len, values })
+    let values = written.each_ref().map(|number| unsafe { std::ptr::read_volatile(number) });
+    Refusal { len, values }
 }
 
 /// Checks a station's image.
 pub fn check_enclave(pack: &[u8], batch: &[u8], house: &[u8]) -> Answer {
-    let mut numbers = [0; 8];
-    let len = run(check_enclave_image, [pack, batch, house], &mut numbers);
-    match numbers {
+    let refusal = numbers(check_enclave_image, [pack, batch, house]);
+    match refusal.values {
         [0, links, ..] => Answer::Enclave { links },
-        _ => refusal(len, &numbers),
+        _ => Answer::Refused(refusal),
     }
 }
 
 /// Checks a line's image.
 pub fn check_federate(pack: &[u8], batch: &[u8], house: &[u8]) -> Answer {
-    let mut numbers = [0; 8];
-    let len = run(check_federate_image, [pack, batch, house], &mut numbers);
-    match numbers {
+    let refusal = numbers(check_federate_image, [pack, batch, house]);
+    match refusal.values {
         [0, enclaves, links, ..] => Answer::Federate { enclaves, links },
-        _ => refusal(len, &numbers),
+        _ => Answer::Refused(refusal),
     }
 }
