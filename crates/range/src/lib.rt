@@ -32,10 +32,11 @@ impl SliceRange {
         self.span().checked_end()
     }
 
+    // Two 32-bit numbers always have an end: it is their sum.
     pub fn saturating_end(self) -> u64
         ensures { λ r. ⌜ r ≡ saturatingEnd (self .start) (self .len) ⌝ }
     {
-        self.span().saturating_end()
+        self.start as u64 + self.len as u64
     }
 
     // The same start and length, as a span has them.
