@@ -1,6 +1,6 @@
 -- A loop over a run of checks: what is left at i decides the whole run. Assumes nothing.
 use Prim.Native.Nat.{ℕ, suc, _+_, _-_, _<_, _≤_}
-use mathlib.Core.Bool.{Bool, false, not}
+use mathlib.Core.Bool.{Bool, true, false, not}
 use mathlib.Core.Path.{_≡_, refl, _∙_, sym}
 use mathlib.Core.List.{List}
 use native.Mathlib.Numerals.{add-one}
@@ -10,9 +10,9 @@ use Rattle.answers.specs.declared.Refusal.{Refusal}
 use Rattle.answers.specs.declared.Outcome.{Outcome}
 use Rattle.answers.specs.declared.Outcome.the-variants.{Passed, Refused}
 use Rattle.answers.specs.Checks.{Check, first, run, Decides}
-use Rattle.answers.specs.PassesIf.{PassesIf}
+use Rattle.answers.specs.PassesIf.{isPassed, PassesIf}
 use Rattle.answers.proofs.Laws.{first-past, first-stops}
-use Rattle.answers.proofs.Quick.{surely}
+use Rattle.answers.proofs.Quick.{sure, surely, exactly, passed, fails}
 
 -- a run that is not over starts with the checks at i
 run-at : (f : ℕ → List Check) (i n : ℕ) → i < n → n - i ≡ suc (n - (i + 1))
@@ -55,6 +55,38 @@ loop-none l e h = rw (← e) (remaining-none l h)
 
 -- all that a loop over items has to show: `search` finds the premises among what is known at each place
 pub ruleset loop-laws = (remaining-start, remaining-step, quick-step, loop-stop, loop-none)
+
+-- a quick test of a whole run, item by item; `unsure` where one is left open
+pub quick-none : {f : ℕ → List Check} {i k n : ℕ} → Remaining f i k → k ≡ n → k ≤ i → PassesIf (run f 0 n) true
+quick-none l e h = sure (λ _. loop-none l e h)
+
+-- a loop that keeps a value from one item to the next: before item i it is `before i`
+pub record Keeping {A : Type 0} (f : ℕ → List Check) (before : ℕ → A) (n i : ℕ) (kept : A) : Type 0 where
+  pub left : Remaining f i n
+  pub is : kept ≡ before i
+
+pub keeping-start : {A : Type 0} {before : ℕ → A} {kept : A} (f : ℕ → List Check) (n : ℕ) → kept ≡ before 0 → Keeping f before n 0 kept
+keeping-start f n e = record { left = remaining-start f n; is = e }
+
+pub keeping-step : {A : Type 0} {f : ℕ → List Check} {before : ℕ → A} {n i : ℕ} {kept next : A} {o : Outcome} → Keeping f before n i kept → i < n → Decides (f i) o → o ≡ Passed → next ≡ before (i + 1) → Keeping f before n (i + 1) next
+keeping-step l h d e k = record { left = remaining-step (l .left) h d e; is = k }
+
+pub keeping-quick : {A : Type 0} {f : ℕ → List Check} {before : ℕ → A} {n i : ℕ} {kept next : A} {b : Bool} → Keeping f before n i kept → i < n → PassesIf (f i) b → not b ≡ false → next ≡ before (i + 1) → Keeping f before n (i + 1) next
+keeping-quick {b = b} l h q e k = keeping-step l h (surely q (not-false b e)) refl k
+
+-- an exact test of a run, item by item
+pub test-step : {f : ℕ → List Check} {i n : ℕ} {b : Bool} → Remaining f i n → i < n → b ≡ isPassed (first (f i)) → not b ≡ false → Remaining f (i + 1) n
+test-step l h d e = quick-step l h (exactly d) e
+
+pub test-stop : {f : ℕ → List Check} {i k n : ℕ} {b : Bool} → Remaining f i k → k ≡ n → i < k → b ≡ isPassed (first (f i)) → not b ≡ true → false ≡ isPassed (first (run f 0 n))
+unfolding run
+test-stop {f} {i} {k} {n} l e h d t =
+    rw (← e, l .same, run-at f i k h) (fails (f i) _ d t)
+
+pub test-none : {f : ℕ → List Check} {i k n : ℕ} → Remaining f i k → k ≡ n → k ≤ i → true ≡ isPassed (first (run f 0 n))
+test-none l e h = passed (loop-none l e h)
+
+pub ruleset test-laws = (remaining-start, test-step, test-stop, test-none)
 
 -- a run of no items
 pub no-items : (f : ℕ → List Check) {n : ℕ} → n ≡ 0 → Decides (run f 0 n) Passed
