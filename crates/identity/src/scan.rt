@@ -293,16 +293,27 @@ pub fn short_ascii(text: &[u8]) -> bool
     false
 }
 
-// The same for visible bytes.
-fn short_visible(text: &[u8]) -> bool
+// The same for 4 to 8 visible bytes.
+fn few_visible(text: &[u8]) -> bool
     ensures { λ r. ⌜ (r ≡ true → validId (now (text .entry)) ≡ true) ⌝ }
 {
     let len = text.len();
     if len < 4 {
         return false;
     }
+    if 8 < len {
+        return false;
+    }
+    visible_four(text, 0) & visible_four(text, len - 4)
+}
+
+// For 4 to 16.
+fn short_visible(text: &[u8]) -> bool
+    ensures { λ r. ⌜ (r ≡ true → validId (now (text .entry)) ≡ true) ⌝ }
+{
+    let len = text.len();
     if len <= 8 {
-        return visible_four(text, 0) & visible_four(text, len - 4);
+        return few_visible(text);
     }
     if len <= 16 {
         return visible_eight(text, 0) & visible_eight(text, len - 8);
@@ -425,4 +436,14 @@ pub fn valid_id(text: &[u8]) -> bool
         return true;
     }
     id_scan(text)
+}
+
+// The same for callers that have many texts: the shortest names are told before the call, by a test that is small enough to be copied to its caller.
+pub fn quick_valid_id(text: &[u8]) -> bool
+    ensures { λ r. ⌜ r ≡ validId (now (text .entry)) ⌝ }
+{
+    if few_visible(text) {
+        return true;
+    }
+    valid_id(text)
 }

@@ -11,10 +11,8 @@ pub short-visible-spec : {M : Type 1} → statement M
 short-visible-spec =
     tie.close
     (tie.spec
-    (λ c. failed)
     (λ c κs. search needs)
-    (λ c κs. search needs)
-    (λ c e. id-whole _ (omega arith) (run-overlap 4 _ (omega arith) (omega arith) (c .before .visible-four .ensures) (c .visible-four2 .ensures) e))
+    (λ c. c .few-visible .ensures)
     (λ c κs. search needs)
     (λ c. search needs)
     (λ c κs. search needs)
