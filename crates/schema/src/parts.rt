@@ -206,11 +206,25 @@ pub fn mode_reactor_of(p: &[u8], n: usize) -> ReactorIndex
     ReactorIndex(word_of(p, n, 4))
 }
 
+pub fn mode_scope_of(p: &[u8], n: usize) -> ScopeIndex
+    requires { ⌜ n < length (now p) / 64 ⌝ }
+    ensures { λ r. ⌜ r ≡ modeAt (now (p .entry)) n .scope ⌝ }
+{
+    ScopeIndex(word_of(p, n, 8))
+}
+
 pub fn scope_parent_at(p: &[u8], n: usize) -> MaybeScope
     requires { ⌜ Whole (now p) ⌝ }
     ensures { λ r. ⌜ r ≡ scopeAt (now (p .entry)) n .parent ⌝ }
 {
     maybe_scope(bit(byte_at(p, n, 1), 1), word_at(p, n, 4))
+}
+
+pub fn scope_parent_of(p: &[u8], n: usize) -> MaybeScope
+    requires { ⌜ n < length (now p) / 64 ⌝ }
+    ensures { λ r. ⌜ r ≡ scopeAt (now (p .entry)) n .parent ⌝ }
+{
+    maybe_scope(bit(byte_of(p, n, 1), 1), word_of(p, n, 4))
 }
 
 pub fn scope_reactor_of(p: &[u8], n: usize) -> ReactorIndex
@@ -225,6 +239,27 @@ pub fn scope_mode_of(p: &[u8], n: usize) -> MaybeMode
     ensures { λ r. ⌜ r ≡ scopeAt (now (p .entry)) n .mode ⌝ }
 {
     maybe_mode(bit(byte_of(p, n, 1), 2), word_of(p, n, 12))
+}
+
+pub fn scope_descendants_of(p: &[u8], n: usize) -> SliceRange
+    requires { ⌜ n < length (now p) / 64 ⌝ }
+    ensures { λ r. ⌜ r ≡ scopeAt (now (p .entry)) n .descendants ⌝ }
+{
+    range_of(p, n, 16)
+}
+
+pub fn scope_logical_actions_of(p: &[u8], n: usize) -> SliceRange
+    requires { ⌜ n < length (now p) / 64 ⌝ }
+    ensures { λ r. ⌜ r ≡ scopeAt (now (p .entry)) n .«logical_actions» ⌝ }
+{
+    range_of(p, n, 24)
+}
+
+pub fn scope_timer_startups_of(p: &[u8], n: usize) -> SliceRange
+    requires { ⌜ n < length (now p) / 64 ⌝ }
+    ensures { λ r. ⌜ r ≡ scopeAt (now (p .entry)) n .«timer_startups» ⌝ }
+{
+    range_of(p, n, 32)
 }
 
 pub fn scope_reset_reactions_of(p: &[u8], n: usize) -> SliceRange
@@ -254,6 +289,13 @@ pub fn lifecycle_action_at(p: &[u8], n: usize) -> ActionIndex
     ensures { λ r. ⌜ r ≡ lifecycleAt (now (p .entry)) n .action ⌝ }
 {
     ActionIndex(word_at(p, n, 12))
+}
+
+pub fn lifecycle_action_of(p: &[u8], n: usize) -> ActionIndex
+    requires { ⌜ n < length (now p) / 64 ⌝ }
+    ensures { λ r. ⌜ r ≡ lifecycleAt (now (p .entry)) n .action ⌝ }
+{
+    ActionIndex(word_of(p, n, 12))
 }
 
 pub fn lifecycle_reaction_at(p: &[u8], n: usize) -> LevelReactionImage
