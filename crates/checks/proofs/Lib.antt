@@ -1,3 +1,4 @@
 pub mod FoundLaws
 pub mod RowLaws
 pub mod PassedLaws
+pub mod RangeLaws

@@ -48,11 +48,11 @@ pub rises : (x y : ℕ) {t i : ℕ} → x < y → Decides (levelOrderChecks t i 
 rises x y l = pass (ap not (not-equal x y l)) (pass (ap not (not-less x y l)) none)
 
 -- the two W's of a record are its entry
-level-read : {p : List ℕ} {m n x : ℕ} → m ≡ n → Words p (m * 64 + 4) x → entryOf x ≡ levelAt p n
+pub level-read : {p : List ℕ} {m n x : ℕ} → m ≡ n → Words p (m * 64 + 4) x → entryOf x ≡ levelAt p n
 unfolding levelAt
 level-read e w = rw (← e) (simp (w .first, second-at _ 4 w))
 
-lifecycle-read : {p : List ℕ} {m n x : ℕ} → m ≡ n → Words p (m * 64 + 4) x → entryOf x ≡ lifecycleAt p n .reaction
+pub lifecycle-read : {p : List ℕ} {m n x : ℕ} → m ≡ n → Words p (m * 64 + 4) x → entryOf x ≡ lifecycleAt p n .reaction
 unfolding lifecycleAt
 lifecycle-read e w = rw (← e) (simp (w .first, second-at _ 4 w))
 

@@ -1,14 +1,15 @@
 // Lists of reactions by level, and of lifecycle reactions.
 ghost use mathlib.Core.Path.{_≡_};
-ghost use mathlib.Core.List.{[], _∷_};
-ghost use Prim.Native.Nat.{ℕ, _+_, _<_};
+ghost use mathlib.Core.List.{[], _∷_, _++_};
+ghost use Prim.Native.Nat.{ℕ, _+_, _/_, _<_};
+ghost use lib.ListN.{length};
 ghost use Rattle.answers.specs.Checks.{first, Decides};
 ghost use Rattle.answers.specs.PassesIf.{isPassed, PassesIf};
 ghost use Rattle.checks.specs.Image.{rowsOf, reactionsAt, levelsAt, lifecyclesAt, Rising, Within};
 ghost use Rattle.checks.specs.Lists.{entryIndex, levelEqual, levelLess, levelRefChecks, levelOrderChecks, levelChecks, lifecycleChecks, levelsChecks, lifecyclesChecks};
 ghost use Rattle.checks.specs.PassedOver.{entryOf, entryChecks, PassedOver};
 ghost use Rattle.checks.specs.Refs.{refTo};
-ghost use Rattle.schema.specs.Rows.{Whole};
+ghost use Rattle.schema.specs.Rows.{Whole, levelAt, lifecycleAt};
 use crate::Found;
 use answers::Outcome;
 use answers::Refusal;
@@ -18,6 +19,7 @@ use schema::index::ActionIndex;
 use schema::lists::LevelReactionImage;
 use schema::number;
 use schema::parts;
+use schema::read;
 use schema::read_lists;
 use schema::rows::ActionImage;
 use schema::rows::ReactionImage;
@@ -184,7 +186,7 @@ pub fn check_action(s: &TableStarts, table: u8, index: u32, action: ActionIndex)
 // Whether an entry, read as one number, names a reaction that is there and has the entry's level.
 fn has_level(p: &[u8], s: &TableStarts, pair: u64) -> bool
     requires { ⌜ Whole (now p) × (Rising (now s) × Within (now p) (now s)) ⌝ }
-    ensures { λ r. ⌜ ((t i : ℕ) → PassesIf (levelRefChecks (rowsOf (now (s .entry))) (reactionsAt (now (p .entry)) (now (s .entry))) t i (entryOf pair)) r) ⌝ }
+    ensures { λ r. ⌜ ((t i : ℕ) → r ≡ isPassed (first (levelRefChecks (rowsOf (now (s .entry))) (reactionsAt (now (p .entry)) (now (s .entry))) t i (entryOf pair)))) ⌝ }
 {
     let reaction = number::low(pair);
     if crate::refs::rows_of(s, ReactionImage::TABLE) <= reaction {
@@ -192,6 +194,26 @@ fn has_level(p: &[u8], s: &TableStarts, pair: u64) -> bool
     }
     let n = crate::refs::row_of(s, ReactionImage::TABLE, reaction);
     parts::reaction_level_of(p, n) == number::high(pair)
+}
+
+// Whether record n, an entry of a table of reactions by level, names a reaction that is there and has its level, as whichever row of whichever table it is shown.
+pub fn level_entry_passes(p: &[u8], s: &TableStarts, n: usize) -> bool
+    requires { ⌜ Whole (now p) × (Rising (now s) × (Within (now p) (now s) × (n < length (now p) / 64))) ⌝ }
+    ensures { λ r. ⌜ ((t i : ℕ) → r ≡ isPassed (first (levelRefChecks (rowsOf (now (s .entry))) (reactionsAt (now (p .entry)) (now (s .entry))) t i (levelAt (now (p .entry)) n)))) ⌝ }
+{
+    has_level(p, s, read::words_of(p, n, 4))
+}
+
+// The same for an entry of a table of lifecycle reactions, whose action is there too.
+pub fn lifecycle_entry_passes(p: &[u8], s: &TableStarts, n: usize) -> bool
+    requires { ⌜ Whole (now p) × (Rising (now s) × (Within (now p) (now s) × (n < length (now p) / 64))) ⌝ }
+    ensures { λ r. ⌜ ((t i : ℕ) → r ≡ isPassed (first ((refTo (rowsOf (now (s .entry))) t i 29 3 (lifecycleAt (now (p .entry)) n .action .0) ∷ []) ++ levelRefChecks (rowsOf (now (s .entry))) (reactionsAt (now (p .entry)) (now (s .entry))) t i (lifecycleAt (now (p .entry)) n .reaction)))) ⌝ }
+{
+    let action = parts::lifecycle_action_of(p, n);
+    if crate::refs::rows_of(s, ActionImage::TABLE) <= action.0 {
+        return false;
+    }
+    has_level(p, s, read::words_of(p, n, 4))
 }
 
 // A quick test of entry k and of the entry before it, each read as one number. The level is the high half, so entries rise as their numbers do.
@@ -335,4 +357,18 @@ pub fn validate_lifecycle(p: &[u8], s: &TableStarts, table: u8, start: u32, len:
         return Outcome::Passed;
     }
     check_lifecycles(p, s, table, start, len)
+}
+
+// Whether they pass, for callers that have many ranges, likewise.
+pub fn lifecycles_pass(p: &[u8], s: &TableStarts, table: u8, start: u32, len: u32) -> bool
+    requires { ⌜ Whole (now p) × (Rising (now s) × (Within (now p) (now s) × (table < 25))) ⌝ }
+    ensures { λ r. ⌜ r ≡ isPassed (first (lifecyclesChecks (rowsOf (now (s .entry))) (reactionsAt (now (p .entry)) (now (s .entry))) (lifecyclesAt (now (p .entry)) (now (s .entry))) table start len)) ⌝ }
+{
+    if len == 0 {
+        return true;
+    }
+    if lifecycles_past(p, s, table, start, len) == len {
+        return true;
+    }
+    is_passed(check_lifecycles(p, s, table, start, len))
 }

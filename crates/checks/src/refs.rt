@@ -1,11 +1,14 @@
 // Table lengths, references, ranges and spans.
 ghost use mathlib.Core.Path.{_≡_};
+ghost use mathlib.Core.Bool.{_&&_};
 ghost use mathlib.Core.List.{[], _∷_};
 ghost use Prim.Native.Nat.{_+_, _<_};
 ghost use lib.ListN.{getD};
+ghost use lib.Dec.{leb};
+ghost use Rattle.range.specs.Range.{checkedEnd};
 ghost use Rattle.answers.specs.Checks.{Decides};
 ghost use Rattle.checks.specs.Image.{startOf, rowsOf, Rising};
-ghost use Rattle.checks.specs.Refs.{lengthCheck, LookedUp, spanChecks, rangeChecks};
+ghost use Rattle.checks.specs.Refs.{lengthCheck, LookedUp, endWithin, spanChecks, rangeChecks};
 use crate::Found;
 use answers::Outcome;
 use answers::Refusal;
@@ -232,4 +235,13 @@ pub fn check_enclave_range(
     ensures { λ r. ⌜ Decides (rangeChecks (rowsOf (now (s .entry))) table index field target range «previous_end») r ⌝ }
 {
     check_enclave_span(s, table, index, field, target, range.span(), previous_end)
+}
+
+// The tests of `check_enclave_range` for a table of so many rows, as an answer in a register.
+pub fn range_fits(range: SliceRange, previous_end: u64, rows: u32) -> bool
+    ensures { λ r. ⌜ r ≡ (endWithin (checkedEnd (range .start) (range .len)) rows && leb «previous_end» (range .start)) ⌝ }
+{
+    let start = range.start as u64;
+    let end = start + range.len as u64;
+    (end <= rows as u64) & (previous_end <= start)
 }
