@@ -1,1 +1,1 @@
-pub mod QuickLaws
+pub mod ReactionLaws

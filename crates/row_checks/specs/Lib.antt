@@ -4,4 +4,3 @@ pub mod Actions
 pub mod Ports
 pub mod Reactions
 pub mod Modes
-pub mod Fits

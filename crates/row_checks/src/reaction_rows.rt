@@ -1,21 +1,18 @@
-// Every row of reactions: passed over where a quick test, whose answer stays in a register, sees that its checks pass, and checked in full elsewhere.
+// Every row of reactions: by a quick test whose answer stays in a register, and in full, for the refusal, where that does not see all rows pass.
 ghost use mathlib.Core.Path.{_≡_};
-ghost use mathlib.Core.Bool.{true};
 ghost use mathlib.Core.List.{[]};
-ghost use Prim.Native.Nat.{_<_};
+ghost use Prim.Native.Nat.{_+_, _<_};
 ghost use Rattle.answers.specs.Checks.{run, Decides};
 ghost use Rattle.answers.specs.PassesIf.{PassesIf};
 ghost use Rattle.checks.specs.Image.{image, rowsOf, modesAt, reactionsAt, Rising, Within};
-ghost use Rattle.row_checks.specs.Fits.{Fits};
 ghost use Rattle.row_checks.specs.Reactions.{effectChecks, reactionOwnerChecks, reactionEndsBefore, reactionRangeChecks, reactionChecks};
 ghost use Rattle.schema.specs.Rows.{Whole};
 use crate::bindings::same_kind;
 use crate::reactions::ReactionEnds;
-use crate::reactions::check_reaction;
-use crate::reactions::ends_before;
+use crate::reactions::check_each;
+use crate::reactions::no_ends;
 use answers::Outcome;
 use checks::refs;
-use range::SliceRange;
 use schema::TableStarts;
 use schema::index::BindingKind;
 use schema::index::MaybeModeEffect;
@@ -29,15 +26,6 @@ use schema::rows::ReactionImage;
 use schema::rows::ReactorImage;
 use schema::rows::RequiredBindingImage;
 use schema::rows::ScopeImage;
-
-// Whether a range lies in a table of so many rows, and not before the end of the range of the row before.
-fn fits(range: SliceRange, previous: u64, rows: u32) -> bool
-    ensures { λ r. ⌜ (r ≡ true → Fits rows range previous) ⌝ }
-{
-    let start = range.start as u64;
-    let end = start + range.len as u64;
-    (end <= rows as u64) & (previous <= start)
-}
 
 // Reactor, scope and binding are there, and the scope is the reactor's.
 fn owner_passes(p: &[u8], s: &TableStarts, i: u32) -> bool
@@ -92,22 +80,22 @@ fn ranges_pass(p: &[u8], s: &TableStarts, i: u32, previous: ReactionEnds) -> boo
     ensures { λ r. ⌜ PassesIf (reactionRangeChecks (rowsOf (now (s .entry))) i (reactionsAt (now (p .entry)) (now (s .entry)) i) previous) r ⌝ }
 {
     let n = refs::row_of(s, ReactionImage::TABLE, i);
-    let uses = fits(
+    let uses = refs::range_fits(
         parts::reaction_use_ports_of(p, n),
         previous.uses,
         refs::rows_of(s, ReactionUsePort::TABLE),
     );
-    let effects = fits(
+    let effects = refs::range_fits(
         parts::reaction_effect_ports_of(p, n),
         previous.effects,
         refs::rows_of(s, ReactionEffectPort::TABLE),
     );
-    let actions = fits(
+    let actions = refs::range_fits(
         parts::reaction_actions_of(p, n),
         previous.actions,
         refs::rows_of(s, ReactionAction::TABLE),
     );
-    let enabled = fits(
+    let enabled = refs::range_fits(
         parts::reaction_enabled_modes_of(p, n),
         previous.enabled,
         refs::rows_of(s, ReactionMode::TABLE),
@@ -129,23 +117,49 @@ fn reaction_passes(p: &[u8], s: &TableStarts, i: u32, previous: ReactionEnds) ->
     ranges_pass(p, s, i, previous)
 }
 
+// Where the ranges of row i end: those before the row after it.
+fn ends_after(p: &[u8], s: &TableStarts, i: u32) -> ReactionEnds
+    requires { ⌜ Rising (now s) × (Within (now p) (now s) × (i < rowsOf (now s) 5)) ⌝ }
+    ensures { λ r. ⌜ r ≡ reactionEndsBefore (reactionsAt (now (p .entry)) (now (s .entry))) (i + 1) ⌝ }
+{
+    let n = refs::row_of(s, ReactionImage::TABLE, i);
+    let uses = parts::reaction_use_ports_of(p, n);
+    let effects = parts::reaction_effect_ports_of(p, n);
+    let actions = parts::reaction_actions_of(p, n);
+    let enabled = parts::reaction_enabled_modes_of(p, n);
+    ReactionEnds {
+        uses: uses.saturating_end(),
+        effects: effects.saturating_end(),
+        actions: actions.saturating_end(),
+        enabled: enabled.saturating_end(),
+    }
+}
+
+// Whether every row is seen to pass. Where its ranges end is kept for the row after it.
+fn reactions_pass(p: &[u8], s: &TableStarts) -> bool
+    requires { ⌜ Rising (now s) × Within (now p) (now s) ⌝ }
+    ensures { λ r. ⌜ PassesIf (run (reactionChecks (image (now (p .entry)) [] [] (now (s .entry)) 0)) 0 (rowsOf (now (s .entry)) 5)) r ⌝ }
+{
+    let rows = refs::rows_of(s, ReactionImage::TABLE);
+    let mut previous = no_ends();
+    let mut i = 0;
+    while i < rows {
+        if !reaction_passes(p, s, i, previous) {
+            return false;
+        }
+        previous = ends_after(p, s, i);
+        i += 1;
+    }
+    true
+}
+
 // Every row of the reactions.
 pub fn check_reactions(p: &[u8], s: &TableStarts) -> Outcome
     requires { ⌜ Whole (now p) × (Rising (now s) × Within (now p) (now s)) ⌝ }
     ensures { λ r. ⌜ Decides (run (reactionChecks (image (now (p .entry)) [] [] (now (s .entry)) 0)) 0 (rowsOf (now (s .entry)) 5)) r ⌝ }
 {
-    let rows = refs::rows_of(s, ReactionImage::TABLE);
-    let mut i = 0;
-    while i < rows {
-        let next = i + 1;
-        let previous = ends_before(p, s, i);
-        if !reaction_passes(p, s, i, previous) {
-            let a = check_reaction(p, s, i, previous);
-            let Outcome::Passed = a else {
-                return a;
-            };
-        }
-        i = next;
+    if reactions_pass(p, s) {
+        return Outcome::Passed;
     }
-    Outcome::Passed
+    check_each(p, s)
 }

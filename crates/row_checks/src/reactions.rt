@@ -3,10 +3,10 @@ ghost use mathlib.Core.Path.{_≡_};
 ghost use mathlib.Core.List.{[], _∷_};
 ghost use Prim.Native.Nat.{_<_};
 ghost use lib.Dec.{eqb};
-ghost use Rattle.answers.specs.Checks.{Decides, need};
-ghost use Rattle.checks.specs.Image.{image, rowsOf, scopesAt, modesAt, effectTarget, reactionPart, reactionsAt, Rising, Within};
+ghost use Rattle.answers.specs.Checks.{run, Decides, need};
+ghost use Rattle.checks.specs.Image.{image, rowsOf, scopesAt, modesAt, effectTarget, reactionPart, Rising, Within};
 ghost use Rattle.checks.specs.Refs.{rangeChecks};
-ghost use Rattle.row_checks.specs.Reactions.{effectChecks, reactionOwnerChecks, reactionEndsBefore, reactionRangeChecks, reactionRow, reactionChecks};
+ghost use Rattle.row_checks.specs.Reactions.{effectChecks, reactionOwnerChecks, reactionEndsOf, noReactionEnds, reactionRangeChecks, reactionRow, reactionChecks};
 ghost use Rattle.schema.specs.Rows.{Whole};
 use answers::Outcome;
 use answers::Refusal;
@@ -36,29 +36,27 @@ pub struct ReactionEnds {
     pub enabled: u64,
 }
 
-// Where the ranges of the row before end; 0 before the first row.
-pub fn ends_before(p: &[u8], s: &TableStarts, i: u32) -> ReactionEnds
-    requires { ⌜ Rising (now s) × (Within (now p) (now s) × (i < rowsOf (now s) 5)) ⌝ }
-    ensures { λ r. ⌜ r ≡ reactionEndsBefore (reactionsAt (now (p .entry)) (now (s .entry))) i ⌝ }
+// The ends before the first row.
+pub fn no_ends() -> ReactionEnds
+    ensures { λ r. ⌜ r ≡ noReactionEnds ⌝ }
 {
-    if i == 0 {
-        return ReactionEnds {
-            uses: 0,
-            effects: 0,
-            actions: 0,
-            enabled: 0,
-        };
-    }
-    let n = refs::row_of(s, ReactionImage::TABLE, i - 1);
-    let uses = parts::reaction_use_ports_of(p, n);
-    let effects = parts::reaction_effect_ports_of(p, n);
-    let actions = parts::reaction_actions_of(p, n);
-    let enabled = parts::reaction_enabled_modes_of(p, n);
     ReactionEnds {
-        uses: uses.saturating_end(),
-        effects: effects.saturating_end(),
-        actions: actions.saturating_end(),
-        enabled: enabled.saturating_end(),
+        uses: 0,
+        effects: 0,
+        actions: 0,
+        enabled: 0,
+    }
+}
+
+// Where the ranges of a row end.
+fn ends_of(row: ReactionImage) -> ReactionEnds
+    ensures { λ r. ⌜ r ≡ reactionEndsOf (reactionPart row) ⌝ }
+{
+    ReactionEnds {
+        uses: row.use_ports.saturating_end(),
+        effects: row.effect_ports.saturating_end(),
+        actions: row.actions.saturating_end(),
+        enabled: row.enabled_modes.saturating_end(),
     }
 }
 
@@ -222,11 +220,22 @@ fn check_reaction_row(
     check_reaction_ranges(s, i, row, previous)
 }
 
-// Row i of the reactions, after a row whose ranges end there.
-pub fn check_reaction(p: &[u8], s: &TableStarts, i: u32, previous: ReactionEnds) -> Outcome
-    requires { ⌜ Whole (now p) × (Rising (now s) × (Within (now p) (now s) × (previous ≡ reactionEndsBefore (reactionsAt (now p) (now s)) i))) ⌝ }
-    ensures { λ r. ⌜ Decides (reactionChecks (image (now (p .entry)) [] [] (now (s .entry)) 0) i) r ⌝ }
+// Every row in full. Where its ranges end is kept for the row after it.
+pub fn check_each(p: &[u8], s: &TableStarts) -> Outcome
+    requires { ⌜ Whole (now p) × (Rising (now s) × Within (now p) (now s)) ⌝ }
+    ensures { λ r. ⌜ Decides (run (reactionChecks (image (now (p .entry)) [] [] (now (s .entry)) 0)) 0 (rowsOf (now (s .entry)) 5)) r ⌝ }
 {
-    let row = read::reaction_at(p, refs::row_number(s, ReactionImage::TABLE, i));
-    check_reaction_row(p, s, i, row, previous)
+    let rows = refs::rows_of(s, ReactionImage::TABLE);
+    let mut previous = no_ends();
+    let mut i = 0;
+    while i < rows {
+        let row = read::reaction_at(p, refs::row_number(s, ReactionImage::TABLE, i));
+        let a = check_reaction_row(p, s, i, row, previous);
+        let Outcome::Passed = a else {
+            return a;
+        };
+        previous = ends_of(row);
+        i += 1;
+    }
+    Outcome::Passed
 }
