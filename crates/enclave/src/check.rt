@@ -43,7 +43,7 @@ pub fn check_image<'a>(
     let Outcome::Passed = rows else {
         return refused(rows);
     };
-    let scopes = scope_checks::scopes::check_scopes(p, s);
+    let scopes = scope_checks::scope_rows::check_scopes(p, s);
     let Outcome::Passed = scopes else {
         return refused(scopes);
     };

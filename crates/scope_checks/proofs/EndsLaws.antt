@@ -28,12 +28,17 @@ moves {row = row} {old = old} d e n = record { decides = d; moved = n ∙ sym (a
 pub moves-after : {xs ys : List Check} {row : ScopeImage} {old new : ScopeEnds} {a o : Outcome} → Decides xs a → a ≡ Passed → Moves ys row old new o → Moves (xs ++ ys) row old new o
 moves-after d e m = record { decides = skip d e (m .decides); moved = m .moved }
 
--- after row i passed, the ends are those of row i
-pub ends-passed : (scopes : ℕ → ScopeImage) (i : ℕ) {cs : List Check} {old new : ScopeEnds} {o : Outcome} → Moves cs (scopes i) old new o → o ≡ Passed → new ≡ endsBefore scopes (i + 1)
+-- before row i + 1 the ends are those of row i
+pub ends-next : (scopes : ℕ → ScopeImage) (i : ℕ) {next : ScopeEnds} → next ≡ endsOf (scopes i) → next ≡ endsBefore scopes (i + 1)
 unfolding endsBefore
-ends-passed scopes i {old = old} m e =
+ends-next scopes i e =
     let k : i + 1 - 1 ≡ i = omega arith in
-    m .moved ∙ (ap (λ (x : Outcome). endsAfter x (scopes i) old) e ∙ rw (ne-eqb (i + 1) 0 (λ z. omega arith), k))
+    e ∙ rw (ne-eqb (i + 1) 0 (λ z. omega arith), k)
+
+-- so after row i passed
+pub ends-passed : (scopes : ℕ → ScopeImage) (i : ℕ) {cs : List Check} {old new : ScopeEnds} {o : Outcome} → Moves cs (scopes i) old new o → o ≡ Passed → new ≡ endsBefore scopes (i + 1)
+ends-passed scopes i {old = old} m e =
+    ends-next scopes i (m .moved ∙ ap (λ (x : Outcome). endsAfter x (scopes i) old) e)
 
 -- the loop over the rows: the rows before i passed, and the ends are those of row i - 1
 pub record Running (m : Image) (n i : ℕ) (ends : ScopeEnds) : Type 0 where

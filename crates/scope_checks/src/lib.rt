@@ -3,4 +3,5 @@ pub mod depths;
 pub mod ends;
 pub mod links;
 pub mod owners;
+pub mod scope_rows;
 pub mod scopes;

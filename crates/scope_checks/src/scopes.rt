@@ -1,4 +1,4 @@
-// The rows of scopes, one after the other.
+// The rows of scopes in full, one after the other.
 ghost use mathlib.Core.List.{[]};
 ghost use Rattle.answers.specs.Checks.{run, Decides};
 ghost use Rattle.checks.specs.Image.{image, rowsOf, Rising, Within};
@@ -9,8 +9,8 @@ use checks::refs;
 use schema::TableStarts;
 use schema::rows::ScopeImage;
 
-// Every row of scopes, with the running ends.
-pub fn check_scopes(p: &[u8], s: &TableStarts) -> Outcome
+// Every row in full, with the running ends.
+pub fn check_each(p: &[u8], s: &TableStarts) -> Outcome
     requires { ⌜ Whole (now p) × (Rising (now s) × Within (now p) (now s)) ⌝ }
     ensures { λ r. ⌜ Decides (run (scopeChecks (image (now (p .entry)) [] [] (now (s .entry)) 0)) 0 (rowsOf (now (s .entry)) 7)) r ⌝ }
 {

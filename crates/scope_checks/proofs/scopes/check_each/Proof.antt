@@ -1,12 +1,12 @@
--- `scope_checks::scopes::check_scopes` meets its contract. Assumes nothing.
+-- `scope_checks::scopes::check_each` meets its contract. Assumes nothing.
 use Rattle.scope_checks.proofs.EndsLaws.{Running, running-start, running-step, running-stop, running-none}
 use Rattle.checks.specs.Image.{image}
 use borrow.Author.Needs.{needs}
 use mathlib.Core.List.{[]}
 use native.Mathlib.Omega.{arith}
 use Prim.Native.Nat.{_-_}
-use Rattle.scope_checks.proofs.scopes.check_scopes.Statement.{statement}
-use Rattle.scope_checks.proofs.scopes.check_scopes.Tie as tie
+use Rattle.scope_checks.proofs.scopes.check_each.Statement.{statement}
+use Rattle.scope_checks.proofs.scopes.check_each.Tie as tie
 
 abbrev Inv-loop : tie.InvT-loop
 Inv-loop p s n ends₀ i₀ ends i = Running (image p [] [] s 0) n i ends
@@ -14,8 +14,8 @@ Inv-loop p s n ends₀ i₀ ends i = Running (image p [] [] s 0) n i ends
 abbrev μ-loop : tie.MeasureT-loop
 μ-loop p s n ends₀ i₀ ends i = n - i
 
-pub check-scopes-spec : {M : Type 1} → statement M
-check-scopes-spec =
+pub check-each-spec : {M : Type 1} → statement M
+check-each-spec =
     tie.close
     (tie.spec
     Inv-loop
