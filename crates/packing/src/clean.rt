@@ -167,13 +167,13 @@ pub fn past_lists(p: &[u8], starts: &mut TableStarts, n: usize, table: u8) -> us
 {
     let records = p.len() / 64;
     let mut next = n;
-    let mut t = table;
-    let mut head = (t as u32) * 0x100_0000;
-    let mut used = wide(shape_of(t).used);
+    let mut t = wide(table);
+    let mut head = (table as u32) * 0x100_0000;
+    let mut used = wide(shape_of(table).used);
     while next < records {
         let word = word_inside(p, next * 64);
         if word != head {
-            if LAST_LIST <= t {
+            if wide(LAST_LIST) <= t {
                 return next;
             }
             if word != head + 0x100_0000 {
@@ -181,8 +181,8 @@ pub fn past_lists(p: &[u8], starts: &mut TableStarts, n: usize, table: u8) -> us
             }
             t += 1;
             head = word;
-            used = wide(shape_of(t).used);
-            starts[t as usize] = next as u32;
+            used = wide(shape_of(t as u8).used);
+            starts[t] = next as u32;
         }
         if !(zeros_32(p, next * 64 + used) & zeros_32(p, next * 64 + 32)) {
             return next;

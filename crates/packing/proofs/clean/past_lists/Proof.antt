@@ -25,22 +25,22 @@ abbrev μ-loop : tie.MeasureT-loop
 μ-loop p starts₀ n table records next₀ t₀ head₀ used₀ starts next t head used = length p / 64 - next
 
 -- record `next` is of list t
-joined : (c : tie.Joined1 Inv-loop μ-loop) → ListStep (now (c .before .before .before .before .before .before .before .args .p)) (c .before .before .before .before .before .before .before .args .table) (c .before .before .before .before .before .before .before .args .n) (now (c .before .before .before .before .before .before .before .args .starts)) (c .if1 .t) (c .before .before .before .loop .next) (c .if1 .starts) (c .if1 .head) (c .if1 .used)
+joined : (c : tie.Joined1 Inv-loop μ-loop) → ListStep (now (c .before .before .before .before .before .before .before .before .args .p)) (c .before .before .before .before .before .before .before .before .args .table) (c .before .before .before .before .before .before .before .before .args .n) (now (c .before .before .before .before .before .before .before .before .args .starts)) (c .if1 .t) (c .before .before .before .loop .next) (c .if1 .starts) (c .if1 .head) (c .if1 .used)
 joined c =
     let l = c .before .before .before .loop in
     let v = l .inv in
     let d = v .1 .1 .0 in
     ⊎-elim
-    (λ w. let h = w .1 .left in let e = w .2 .left in let f = v .1 .0 .from in let k = list-table (l .t + 1) (omega arith) (omega arith) in rw (w .6, w .5, w .7, w .8) (record { table = k; headed = omega arith; bare = sym (c .before .word-inside .ensures); shaped = used-by _ (w .4 .ensures .0) (w .3 .ensures); step = step-next (v .1 .1 .1 .1) (list-row k) _ (omega arith) }))
+    (λ w. let g = w .1 .ensures .0 in let h = w .2 .left in let e = w .3 .left in let f = v .1 .0 .from in let k = list-table (l .t + 1) (omega arith) (omega arith) in rw (w .7, w .6, w .8, w .9) (record { table = k; headed = omega arith; bare = sym (c .before .word-inside .ensures); shaped = used-by _ (w .5 .ensures .0) (w .4 .ensures); step = step-next (v .1 .1 .1 .1) (list-row k) _ (omega arith) }))
     (λ w. rw (w .2, w .1, w .3, w .4) (record { table = v .1 .0; headed = d; bare = sym (c .before .word-inside .ensures) ∙ w .0 .left; shaped = v .1 .1 .1 .0; step = step-same (v .1 .1 .1 .1) }))
     (c .if1 .came)
 
 loop-again : tie.Need-loop-again Inv-loop μ-loop
 loop-again c =
-    let s = c .before .before .before .before .before .before .before .before .before .before .before in
+    let s = c .before .before .before .before .before .before .before .before .before .before .before .before in
     let j = joined (c .before .before .before .before) in
     let z = not-false _ (rw (c .before .zeros-322 .ensures, c .before .before .zeros-32 .ensures, j .shaped) at (c .if4 .left)) in
-    let b = bare-clean (now (s .args .p)) _ _ (λ i. omega (arith, c .before .before .before .before .before .before .before .before .before .before .shared-slice-known .given i)) refl (j .table .shaped) (j .bare ∙ j .headed) z in
+    let b = bare-clean (now (s .args .p)) _ _ (λ i. omega (arith, c .before .before .before .before .before .before .before .before .before .before .before .shared-slice-known .given i)) refl (j .table .shaped) (j .bare ∙ j .headed) z in
     (search needs, (j .table, (j .headed, (j .shaped, j .step .more (table-at (now (s .args .p)) (c .before .before .before .before .before .before .before .loop .next) ∙ b .0) (b .1)))))
 
 pub past-lists-spec : {M : Type 1} → statement M
@@ -49,20 +49,22 @@ past-lists-spec =
     (tie.spec
     Inv-loop
     μ-loop
-    (λ c. search needs)
+    (λ c κs. search needs)
     (λ c. search needs)
     (λ c κs. search needs)
     (λ c κs. search needs)
-    (λ c. (search needs, (c .before .before .before .pre .1 .1, (omega arith, (used-by _ (c .wide .ensures .0) (c .before .shape-of .ensures), row-start)))))
+    (λ c. let e = c .before .before .wide .ensures .0 in
+    (search needs, (rw e (c .before .before .before .before .pre .1 .1), (omega (arith, e), (rw e (used-by _ (c .wide2 .ensures .0) (c .before .shape-of .ensures)), rw e row-start)))))
     (λ c. search needs)
     (λ c κs. search needs)
-    (λ c. let v = c .before .before .before .before .loop .inv in row-past (v .1 .1 .1 .1) (v .0))
-    (λ c. search needs)
+    (λ c κs. search needs)
     (λ c. let v = c .before .before .before .before .before .loop .inv in row-past (v .1 .1 .1 .1) (v .0))
     (λ c. search needs)
-    (λ c κs. search needs)
-    (λ c κs. search needs)
+    (λ c. let v = c .before .before .before .before .before .before .loop .inv in row-past (v .1 .1 .1 .1) (v .0))
     (λ c. search needs)
+    (λ c. search needs)
+    (λ c κs. search needs)
+    (λ c κs. search needs)
     (λ c. search needs)
     (λ c. search needs)
     (λ c. search needs)
