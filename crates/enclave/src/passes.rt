@@ -67,7 +67,11 @@ fn check_enclave_id<'a>(p: &'a [u8], batch: &'a [u8], house: &'a [u8], n: usize)
     requires { ⌜ Whole (now p) ⌝ }
     ensures { λ r. ⌜ Decides (enclaveIdChecks (image (now (p .entry)) (now (batch .entry)) (now (house .entry)) [] n) 0) r ⌝ }
 {
-    identities::validate_id(batch, house, kind::ENCLAVE, 0, parts::enclave_id_at(p, n))
+    let id = parts::enclave_id_at(p, n);
+    if identity::scan::quick_valid_id(identity::place::identity_text(batch, house, id)) {
+        return Outcome::Passed;
+    }
+    identities::validate_id(batch, house, kind::ENCLAVE, 0, id)
 }
 
 fn check_lengths(s: &TableStarts) -> Outcome
@@ -230,22 +234,18 @@ fn check_entries<'a>(
     requires { ⌜ Whole (now p) × (Rising (now s) × Within (now p) (now s)) ⌝ }
     ensures { λ r. ⌜ Decides (checksOf (image (now (p .entry)) (now (batch .entry)) (now (house .entry)) (now (s .entry)) n) (take 6 (drop 11 listPasses))) r ⌝ }
 {
-    let triggers = level_lists::check_level_entries(p, s, ReactionTrigger::TABLE);
-    let Outcome::Passed = triggers else {
-        return triggers;
-    };
-    let resets = level_lists::check_level_entries(p, s, ScopeResetReaction::TABLE);
-    let Outcome::Passed = resets else {
-        return resets;
-    };
-    let startups = level_lists::check_lifecycle_entries(p, s, ScopeStartupReaction::TABLE);
-    let Outcome::Passed = startups else {
-        return startups;
-    };
-    let shutdowns = level_lists::check_lifecycle_entries(p, s, ScopeShutdownReaction::TABLE);
-    let Outcome::Passed = shutdowns else {
-        return shutdowns;
-    };
+    if !level_lists::level_entries_pass(p, s, ReactionTrigger::TABLE) {
+        return level_lists::check_level_entries(p, s, ReactionTrigger::TABLE);
+    }
+    if !level_lists::level_entries_pass(p, s, ScopeResetReaction::TABLE) {
+        return level_lists::check_level_entries(p, s, ScopeResetReaction::TABLE);
+    }
+    if !level_lists::lifecycle_entries_pass(p, s, ScopeStartupReaction::TABLE) {
+        return level_lists::check_lifecycle_entries(p, s, ScopeStartupReaction::TABLE);
+    }
+    if !level_lists::lifecycle_entries_pass(p, s, ScopeShutdownReaction::TABLE) {
+        return level_lists::check_lifecycle_entries(p, s, ScopeShutdownReaction::TABLE);
+    }
     let actions = list_tables::check_startup_actions(p, s);
     let Outcome::Passed = actions else {
         return actions;

@@ -1,8 +1,9 @@
 // The checks of the lists of reactions by level: triggers, the lists of scopes, and every entry of their tables.
+ghost use mathlib.Core.Path.{_≡_};
 ghost use mathlib.Core.List.{[]};
 ghost use Prim.Native.Nat.{_<_};
-ghost use Rattle.answers.specs.Checks.{run, Decides};
-ghost use Rattle.answers.specs.PassesIf.{PassesIf};
+ghost use Rattle.answers.specs.Checks.{first, run, Decides};
+ghost use Rattle.answers.specs.PassesIf.{isPassed, PassesIf};
 ghost use Rattle.checks.specs.Image.{image, rowsOf, Rising, Within};
 ghost use Rattle.list_checks.specs.ListTables.{actionTriggerChecks, portTriggerChecks, scopeListChecks, levelEntryChecks, lifecycleEntryChecks, shutdownReactionChecks};
 ghost use Rattle.schema.specs.Rows.{Whole};
@@ -110,12 +111,14 @@ fn check_scope_lists(p: &[u8], s: &TableStarts, i: u32) -> Outcome
         return lists::validate_levels(p, s, ScopeResetReaction::TABLE, reset.start, reset.len);
     }
     let up = parts::scope_startup_reactions_of(p, n);
-    let a = lists::validate_lifecycle(p, s, ScopeStartupReaction::TABLE, up.start, up.len);
-    let Outcome::Passed = a else {
-        return a;
-    };
+    if !lists::lifecycles_pass(p, s, ScopeStartupReaction::TABLE, up.start, up.len) {
+        return lists::validate_lifecycle(p, s, ScopeStartupReaction::TABLE, up.start, up.len);
+    }
     let down = parts::scope_shutdown_reactions_of(p, n);
-    lists::validate_lifecycle(p, s, ScopeShutdownReaction::TABLE, down.start, down.len)
+    if !lists::lifecycles_pass(p, s, ScopeShutdownReaction::TABLE, down.start, down.len) {
+        return lists::validate_lifecycle(p, s, ScopeShutdownReaction::TABLE, down.start, down.len);
+    }
+    Outcome::Passed
 }
 
 // The lists of every scope.
@@ -144,11 +147,12 @@ fn check_level_entry(p: &[u8], s: &TableStarts, table: u8, i: u32) -> Outcome
     lists::validate_level_ref(p, s, table, i, entry)
 }
 
-// The entries of a table, so many.
-fn level_entries(p: &[u8], s: &TableStarts, table: u8, rows: u32) -> Outcome
+// Every entry of a table of reactions by level, whether or not some range covers it.
+pub fn check_level_entries(p: &[u8], s: &TableStarts, table: u8) -> Outcome
     requires { ⌜ Whole (now p) × (Rising (now s) × (Within (now p) (now s) × (table < 25))) ⌝ }
-    ensures { λ r. ⌜ Decides (run (levelEntryChecks table (image (now (p .entry)) [] [] (now (s .entry)) 0)) 0 rows) r ⌝ }
+    ensures { λ r. ⌜ Decides (run (levelEntryChecks table (image (now (p .entry)) [] [] (now (s .entry)) 0)) 0 (rowsOf (now (s .entry)) table)) r ⌝ }
 {
+    let rows = refs::rows_of(s, table);
     let mut i = 0;
     while i < rows {
         let a = check_level_entry(p, s, table, i);
@@ -160,16 +164,20 @@ fn level_entries(p: &[u8], s: &TableStarts, table: u8, rows: u32) -> Outcome
     Outcome::Passed
 }
 
-// Every entry of a table of reactions by level, whether or not some range covers it. An empty table costs its count alone.
-pub fn check_level_entries(p: &[u8], s: &TableStarts, table: u8) -> Outcome
+// Whether they all pass: an answer in a register.
+pub fn level_entries_pass(p: &[u8], s: &TableStarts, table: u8) -> bool
     requires { ⌜ Whole (now p) × (Rising (now s) × (Within (now p) (now s) × (table < 25))) ⌝ }
-    ensures { λ r. ⌜ Decides (run (levelEntryChecks table (image (now (p .entry)) [] [] (now (s .entry)) 0)) 0 (rowsOf (now (s .entry)) table)) r ⌝ }
+    ensures { λ r. ⌜ r ≡ isPassed (first (run (levelEntryChecks table (image (now (p .entry)) [] [] (now (s .entry)) 0)) 0 (rowsOf (now (s .entry)) table))) ⌝ }
 {
     let rows = refs::rows_of(s, table);
-    if rows == 0 {
-        return Outcome::Passed;
+    let mut i = 0;
+    while i < rows {
+        if !lists::level_entry_passes(p, s, refs::row_of(s, table, i)) {
+            return false;
+        }
+        i += 1;
     }
-    level_entries(p, s, table, rows)
+    true
 }
 
 // Entry i of a table of lifecycle reactions.
@@ -186,11 +194,12 @@ fn check_lifecycle_entry(p: &[u8], s: &TableStarts, table: u8, i: u32) -> Outcom
     lists::validate_level_ref(p, s, table, i, reaction)
 }
 
-// The entries of a table, so many.
-fn lifecycle_entries(p: &[u8], s: &TableStarts, table: u8, rows: u32) -> Outcome
+// Every entry of a table of lifecycle reactions, in the same way.
+pub fn check_lifecycle_entries(p: &[u8], s: &TableStarts, table: u8) -> Outcome
     requires { ⌜ Whole (now p) × (Rising (now s) × (Within (now p) (now s) × (table < 25))) ⌝ }
-    ensures { λ r. ⌜ Decides (run (lifecycleEntryChecks table (image (now (p .entry)) [] [] (now (s .entry)) 0)) 0 rows) r ⌝ }
+    ensures { λ r. ⌜ Decides (run (lifecycleEntryChecks table (image (now (p .entry)) [] [] (now (s .entry)) 0)) 0 (rowsOf (now (s .entry)) table)) r ⌝ }
 {
+    let rows = refs::rows_of(s, table);
     let mut i = 0;
     while i < rows {
         let a = check_lifecycle_entry(p, s, table, i);
@@ -202,16 +211,20 @@ fn lifecycle_entries(p: &[u8], s: &TableStarts, table: u8, rows: u32) -> Outcome
     Outcome::Passed
 }
 
-// Every entry of a table of lifecycle reactions, in the same way.
-pub fn check_lifecycle_entries(p: &[u8], s: &TableStarts, table: u8) -> Outcome
+// Whether they all pass.
+pub fn lifecycle_entries_pass(p: &[u8], s: &TableStarts, table: u8) -> bool
     requires { ⌜ Whole (now p) × (Rising (now s) × (Within (now p) (now s) × (table < 25))) ⌝ }
-    ensures { λ r. ⌜ Decides (run (lifecycleEntryChecks table (image (now (p .entry)) [] [] (now (s .entry)) 0)) 0 (rowsOf (now (s .entry)) table)) r ⌝ }
+    ensures { λ r. ⌜ r ≡ isPassed (first (run (lifecycleEntryChecks table (image (now (p .entry)) [] [] (now (s .entry)) 0)) 0 (rowsOf (now (s .entry)) table))) ⌝ }
 {
     let rows = refs::rows_of(s, table);
-    if rows == 0 {
-        return Outcome::Passed;
+    let mut i = 0;
+    while i < rows {
+        if !lists::lifecycle_entry_passes(p, s, refs::row_of(s, table, i)) {
+            return false;
+        }
+        i += 1;
     }
-    lifecycle_entries(p, s, table, rows)
+    true
 }
 
 // The shutdown reactions: one list over the whole table.
@@ -220,5 +233,9 @@ pub fn check_shutdown_reactions(p: &[u8], s: &TableStarts) -> Outcome
     ensures { λ r. ⌜ Decides (run (shutdownReactionChecks (image (now (p .entry)) [] [] (now (s .entry)) 0)) 0 (rowsOf (now (s .entry)) 21)) r ⌝ }
 {
     let table = ShutdownReaction::TABLE;
-    lists::validate_lifecycle(p, s, table, 0, refs::rows_of(s, table))
+    let rows = refs::rows_of(s, table);
+    if !lists::lifecycles_pass(p, s, table, 0, rows) {
+        return lists::validate_lifecycle(p, s, table, 0, rows);
+    }
+    Outcome::Passed
 }

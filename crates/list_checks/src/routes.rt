@@ -1,5 +1,8 @@
 // The checks of routes and of required bindings.
 ghost use mathlib.Core.Path.{_≡_};
+ghost use mathlib.Core.Bool.{_||_};
+ghost use lib.Dec.{eqb};
+ghost use Rattle.identity.specs.Order.{compared, isGreater};
 ghost use Rattle.identity.specs.Text.{identityText};
 ghost use Rattle.answers.specs.Checks.{run, Decides};
 ghost use Rattle.answers.specs.PassesIf.{PassesIf};
@@ -136,7 +139,7 @@ fn route_passes<'a>(
 {
     let n = refs::row_of(s, RouteImage::TABLE, i);
     let id = parts::route_boundary_of(p, n);
-    if !identity::scan::valid_id(identity::place::identity_text(batch, house, id)) {
+    if !identity::scan::quick_valid_id(identity::place::identity_text(batch, house, id)) {
         return false;
     }
     let port = parts::route_port_of(p, n);
@@ -201,6 +204,16 @@ fn check_binding_id<'a>(
     identities::validate_id_order(batch, house, kind::BINDING, i, id, before.id)
 }
 
+// Whether a binding's text comes after the one before it; the first has none before it.
+fn comes_after<'a>(i: u32, text: &'a [u8], before: &'a [u8]) -> bool
+    ensures { λ r. ⌜ r ≡ (eqb i 0 || isGreater (compared (now (text .entry)) (now (before .entry)))) ⌝ }
+{
+    if i == 0 {
+        return true;
+    }
+    identity::compare::bytes_above(text, before)
+}
+
 // How many of the first `rows` bindings are seen to pass, from the first on: each identity is valid and above the one before, whose text is kept.
 fn bindings_past<'a>(
     p: &'a [u8],
@@ -217,10 +230,10 @@ fn bindings_past<'a>(
     while i < rows {
         let n = refs::row_of(s, RequiredBindingImage::TABLE, i);
         let text = identity::place::identity_text(batch, house, parts::binding_id_of(p, n));
-        if !identity::scan::valid_id(text) {
+        if !identity::scan::quick_valid_id(text) {
             return i;
         }
-        if !identity::compare::bytes_above(text, before) {
+        if !comes_after(i, text, before) {
             return i;
         }
         before = text;

@@ -32,5 +32,5 @@ bindings-past-spec =
     (λ c. omega arith)
     (λ c. omega arith)
     (λ c. let a = c .before .before .before .before .before .before .before .before .before .before .before .before .before .args in
-    binding-step (now (a .p)) (now (a .batch)) (now (a .house)) (now (a .s)) (a .rows) (c .before .before .before .before .before .before .before .before .loop .inv) (c .before .before .before .before .before .before .before .loop-test .taken) (c .before .before .before .before .before .before .row-of .ensures .0) (c .before .before .before .before .before .binding-id-of .ensures) (c .before .before .before .before .identity-text .ensures .0) (c .before .before .before .valid-id .ensures) (c .before .before .if1 .left) (c .before .bytes-above .ensures) (c .if2 .left))
+    binding-step (now (a .p)) (now (a .batch)) (now (a .house)) (now (a .s)) (a .rows) (c .before .before .before .before .before .before .before .before .loop .inv) (c .before .before .before .before .before .before .before .loop-test .taken) (c .before .before .before .before .before .before .row-of .ensures .0) (c .before .before .before .before .before .binding-id-of .ensures) (c .before .before .before .before .identity-text .ensures .0) (c .before .before .before .quick-valid-id .ensures) (c .before .before .if1 .left) (c .before .comes-after .ensures) (c .if2 .left))
     (λ c. c .before .loop .inv .over))

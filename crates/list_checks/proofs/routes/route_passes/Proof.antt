@@ -16,7 +16,7 @@ use Rattle.list_checks.proofs.routes.route_passes.Tie as tie
 returns-3 : tie.Need-returns-3
 unfolding routeChecks
 returns-3 c =
-    let v = sym (c .before .before .before .before .before .before .valid-id .ensures ∙ ap validId (c .before .before .before .before .before .before .before .identity-text .ensures .0)) ∙ not-false _ (c .before .before .before .before .before .if1 .left) in
+    let v = sym (c .before .before .before .before .before .before .quick-valid-id .ensures ∙ ap validId (c .before .before .before .before .before .before .before .identity-text .ensures .0)) ∙ not-false _ (c .before .before .before .before .before .if1 .left) in
     rw (← c .before .before .before .before .before .before .before .before .before .row-of .ensures .0, ← c .before .before .before .before .before .before .before .before .route-boundary-of .ensures, eq-eqb _ _ (c .if3 .taken), ← c .before .before .before .before .route-port-of .ensures, ← c .before .before .before .rows-of .ensures)
     (sure (λ e. pass v (pass (lt-ltb _ _ (c .before .if2 .left)) none)))
 
@@ -25,7 +25,7 @@ unfolding routeChecks
 returns-4 c =
     let a = c .before .before .before .before .before .before .before .before .before .before .before .before .before .before .before .before .args in
     let text = identityText (now (a .batch)) (now (a .house)) in
-    let v = sym (c .before .before .before .before .before .before .before .before .before .valid-id .ensures ∙ ap validId (c .before .before .before .before .before .before .before .before .before .before .identity-text .ensures .0)) ∙ not-false _ (c .before .before .before .before .before .before .before .before .if1 .left) in
+    let v = sym (c .before .before .before .before .before .before .before .before .before .quick-valid-id .ensures ∙ ap validId (c .before .before .before .before .before .before .before .before .before .before .identity-text .ensures .0)) ∙ not-false _ (c .before .before .before .before .before .before .before .before .if1 .left) in
     rw (← c .before .before .before .before .before .before .before .before .before .before .before .before .row-of .ensures .0, ← c .before .before .before .before .before .before .before .before .before .before .before .route-boundary-of .ensures, ne-eqb _ _ (c .before .before .before .if3 .left), ← c .before .before .row-of2 .ensures .0, ← c .before .route-boundary-of2 .ensures, ← c .before .before .before .before .before .before .before .route-port-of .ensures, ← c .before .before .before .before .before .before .rows-of .ensures)
     (sure (λ e. pass v (route-passes (compared (text (c .before .before .before .before .before .before .before .before .before .before .before .route-boundary-of .result)) (text (c .before .route-boundary-of2 .result))) _ _ (sym (c .above .ensures) ∙ e) (pass (lt-ltb _ _ (c .before .before .before .before .if2 .left)) none))))
 
