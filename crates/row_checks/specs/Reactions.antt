@@ -1,6 +1,5 @@
 -- The checks of a row of reactions: view.rs, the fourth row loop. Assumes nothing.
-use Prim.Native.Nat.{ℕ, _-_}
-use mathlib.Core.Bool.{cond}
+use Prim.Native.Nat.{ℕ}
 use mathlib.Core.List.{List, [], _∷_, _++_}
 use lib.Dec.{eqb}
 use Rattle.answers.specs.declared.Refusal.the-variants.{OwnershipMismatch}
@@ -11,7 +10,7 @@ use Rattle.schema.specs.declared.index.MaybeMode.the-variants.{NoMode, Mode}
 use Rattle.schema.specs.declared.index.BindingKind.the-variants.{Reaction}
 use Rattle.schema.specs.declared.rows.ModeImage.{ModeImage}
 use Rattle.checks.specs.Image.{Image, ReactionPart}
-use Rattle.checks.specs.Refs.{refTo, rangeChecks, rangeEnd}
+use Rattle.checks.specs.Refs.{refTo, rangeChecks, rangeEnd, endBefore}
 use Rattle.row_checks.specs.declared.reactions.ReactionEnds.{ReactionEnds}
 use Rattle.row_checks.specs.Bindings.{bindingChecks}
 
@@ -44,9 +43,15 @@ reactionEndsOf row =
 abbrev pub noReactionEnds : ReactionEnds
 noReactionEnds = record { uses = 0; effects = 0; actions = 0; enabled = 0 }
 
--- the ends of row i - 1; 0 before the first row
+-- where the ranges of the row before end
 unfoldable pub reactionEndsBefore : (ℕ → ReactionPart) → ℕ → ReactionEnds
-reactionEndsBefore reactions i = cond (eqb i 0) noReactionEnds (reactionEndsOf (reactions (i - 1)))
+reactionEndsBefore reactions i =
+    record {
+      uses = endBefore (λ j. rangeEnd (reactions j .uses)) i;
+      effects = endBefore (λ j. rangeEnd (reactions j .effects)) i;
+      actions = endBefore (λ j. rangeEnd (reactions j .actions)) i;
+      enabled = endBefore (λ j. rangeEnd (reactions j .enabled)) i;
+    }
 
 -- the four ranges, each against the end of the row before
 abbrev pub reactionRangeChecks : (ℕ → ℕ) → ℕ → ReactionPart → ReactionEnds → List Check
