@@ -10,7 +10,7 @@ use Rattle.answers.specs.declared.Refusal.{Refusal}
 use Rattle.answers.specs.declared.Outcome.{Outcome}
 use Rattle.answers.specs.declared.Outcome.TheVariants.{Passed, Refused}
 use Rattle.answers.specs.Checks.{Check, first, run, Decides}
-use Rattle.answers.specs.PassesIf.{isPassed, PassesIf}
+use Rattle.answers.specs.PassesIf.{is_passed, PassesIf}
 use Rattle.answers.proofs.Laws.{first_past, first_stops}
 use Rattle.answers.proofs.Quick.{sure, surely, exactly, passed, fails}
 
@@ -75,15 +75,15 @@ pub keeping-quick : {A : Type 0} {f : ℕ → List Check} {before : ℕ → A} {
 keeping-quick {b = b} l h q e k = keeping_step l h (surely q (not-false b e)) refl k
 
 -- an exact test of a run, item by item
-pub test-step : {f : ℕ → List Check} {i n : ℕ} {b : Bool} → Remaining f i n → i < n → b ≡ isPassed (first (f i)) → not b ≡ false → Remaining f (i + 1) n
+pub test-step : {f : ℕ → List Check} {i n : ℕ} {b : Bool} → Remaining f i n → i < n → b ≡ is_passed (first (f i)) → not b ≡ false → Remaining f (i + 1) n
 test-step l h d e = quick-step l h (exactly d) e
 
-pub test-stop : {f : ℕ → List Check} {i k n : ℕ} {b : Bool} → Remaining f i k → k ≡ n → i < k → b ≡ isPassed (first (f i)) → not b ≡ true → false ≡ isPassed (first (run f 0 n))
+pub test-stop : {f : ℕ → List Check} {i k n : ℕ} {b : Bool} → Remaining f i k → k ≡ n → i < k → b ≡ is_passed (first (f i)) → not b ≡ true → false ≡ is_passed (first (run f 0 n))
 unfolding run
 test-stop {f} {i} {k} {n} l e h d t =
     rw (← e, l.same, run_at f i k h) (fails (f i) _ d t)
 
-pub test-none : {f : ℕ → List Check} {i k n : ℕ} → Remaining f i k → k ≡ n → k ≤ i → true ≡ isPassed (first (run f 0 n))
+pub test-none : {f : ℕ → List Check} {i k n : ℕ} → Remaining f i k → k ≡ n → k ≤ i → true ≡ is_passed (first (run f 0 n))
 test-none l e h = passed (loop-none l e h)
 
 pub ruleset test-laws = (remaining-start, test-step, test-stop, test-none)

@@ -4,45 +4,45 @@ use mathlib.Core.Path.{◌≡◌, refl, ◌∙◌, ap, sym}
 use mathlib.Core.List.{List, [], ◌∷◌, ◌++◌}
 use Rattle.answers.specs.declared.Outcome.TheVariants.{Passed}
 use Rattle.answers.specs.Checks.{Check, need, first}
-use Rattle.answers.specs.Slots.{isSlot, withoutSlots, slotsHold}
+use Rattle.answers.specs.Slots.{is_slot, without_slots, slots_hold}
 
 cases : {A : Type 0} (b : Bool) → (b ≡ true → A) → (b ≡ false → A) → A
 cases true f g = f refl
 cases false f g = g refl
 
 -- what passes, passes without the slot checks, and its slot checks hold
-pub passes-without : (cs : List Check) → first cs ≡ Passed → (first (withoutSlots cs) ≡ Passed) × (slotsHold cs ≡ true)
-unfolding first withoutSlots slotsHold
+pub passes-without : (cs : List Check) → first cs ≡ Passed → (first (without_slots cs) ≡ Passed) × (slots_hold cs ≡ true)
+unfolding first without_slots slots_hold
 passes-without [] e = (refl, refl)
 passes-without (need true r ∷ cs) e =
     let h = passes-without cs e in
-    cases (isSlot r) (λ t. (rw t h.0, rw t h.1)) (λ f. (rw f h.0, rw f h.1))
+    cases (is_slot r) (λ t. (rw t h.0, rw t h.1)) (λ f. (rw f h.0, rw f h.1))
 passes-without (need false r ∷ cs) e = let z : ◌≡◌ {A = Bool} true false = cc in absurd (true≢false z)
 
 -- what passes without the slot checks passes where they hold
-pub passes-with : (cs : List Check) → first (withoutSlots cs) ≡ Passed → slotsHold cs ≡ true → first cs ≡ Passed
-unfolding first withoutSlots slotsHold
+pub passes-with : (cs : List Check) → first (without_slots cs) ≡ Passed → slots_hold cs ≡ true → first cs ≡ Passed
+unfolding first without_slots slots_hold
 passes-with [] e h = refl
 passes-with (need true r ∷ cs) e h =
-    cases (isSlot r)
+    cases (is_slot r)
     (λ t. passes-with cs (rw t at e) (rw t at h))
     (λ f. passes-with cs (rw f at e) (rw f at h))
 passes-with (need false r ∷ cs) e h =
-    cases (isSlot r)
+    cases (is_slot r)
     (λ t. let x = rw t at h in absurd (true≢false (sym x)))
     (λ f. let x = rw f at e in let z : ◌≡◌ {A = Bool} true false = cc in absurd (true≢false z))
 
 -- the lists of a run, one after the other
-pub without-append : (xs ys : List Check) → withoutSlots (xs ++ ys) ≡ withoutSlots xs ++ withoutSlots ys
-unfolding withoutSlots
+pub without-append : (xs ys : List Check) → without_slots (xs ++ ys) ≡ without_slots xs ++ without_slots ys
+unfolding without_slots
 without-append [] ys = refl
 without-append (need b r ∷ xs) ys =
-    cases (isSlot r) (λ t. rw t (without-append xs ys)) (λ f. rw f (ap (need b r ∷◌) (without-append xs ys)))
+    cases (is_slot r) (λ t. rw t (without-append xs ys)) (λ f. rw f (ap (need b r ∷◌) (without-append xs ys)))
 
-pub slots-append : (xs ys : List Check) → slotsHold (xs ++ ys) ≡ (slotsHold xs && slotsHold ys)
-unfolding slotsHold
+pub slots-append : (xs ys : List Check) → slots_hold (xs ++ ys) ≡ (slots_hold xs && slots_hold ys)
+unfolding slots_hold
 slots-append [] ys = refl
 slots-append (need b r ∷ xs) ys =
-    cases (isSlot r)
-    (λ t. rw t (ap (b &&◌) (slots-append xs ys) ∙ sym (and_assoc b (slotsHold xs) (slotsHold ys))))
+    cases (is_slot r)
+    (λ t. rw t (ap (b &&◌) (slots-append xs ys) ∙ sym (and_assoc b (slots_hold xs) (slots_hold ys))))
     (λ f. rw f (slots-append xs ys))

@@ -5,9 +5,9 @@ use Rattle.answers.specs.declared.Outcome.TheVariants.{Passed, Refused}
 use Rattle.answers.specs.Checks.{Check, first}
 
 -- whether an answer is no refusal
-unfoldable pub isPassed : Outcome → Bool
-isPassed Passed = true
-isPassed (Refused r) = false
+unfoldable pub is_passed : Outcome → Bool
+is_passed Passed = true
+is_passed (Refused r) = false
 
 -- the checks cs pass where b is true; where it is false they are still to be looked at
 pub record PassesIf (cs : List Check) (b : Bool) : Type 0 where

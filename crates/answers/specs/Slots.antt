@@ -11,20 +11,20 @@ use Rattle.answers.specs.Checks.{Check, need}
 abbrev pub SlotRefusal : Outcome → Type 0
 SlotRefusal o = (t : ℕ) × (i : ℕ) × (s : ℕ) × (b : ℕ) × (o ≡ Refused (StorageBoundExceeded t i s b))
 
-abbrev headIs : ℕ → List ℕ → Bool
-headIs n [] = false
-headIs n (x ∷ xs) = eqb x n
+abbrev head_is : ℕ → List ℕ → Bool
+head_is n [] = false
+head_is n (x ∷ xs) = eqb x n
 
 -- the refusal's number is 23
-unfoldable pub isSlot : Refusal → Bool
-isSlot r = headIs 23 (numbers r)
+unfoldable pub is_slot : Refusal → Bool
+is_slot r = head_is 23 (numbers r)
 
 -- the checks without the slot checks
-unfoldable pub withoutSlots : List Check → List Check
-withoutSlots [] = []
-withoutSlots (need b r ∷ cs) = cond (isSlot r) (withoutSlots cs) (need b r ∷ withoutSlots cs)
+unfoldable pub without_slots : List Check → List Check
+without_slots [] = []
+without_slots (need b r ∷ cs) = cond (is_slot r) (without_slots cs) (need b r ∷ without_slots cs)
 
 -- every slot check's test holds
-unfoldable pub slotsHold : List Check → Bool
-slotsHold [] = true
-slotsHold (need b r ∷ cs) = cond (isSlot r) (b && slotsHold cs) (slotsHold cs)
+unfoldable pub slots_hold : List Check → Bool
+slots_hold [] = true
+slots_hold (need b r ∷ cs) = cond (is_slot r) (b && slots_hold cs) (slots_hold cs)

@@ -5,14 +5,14 @@ use mathlib.Core.List.{List}
 use native.Mathlib.Omega.{arith}
 use native.Mathlib.Numerals.{unary_clauses}
 use lib.ListN.{set}
-use Rattle.cases.specs.Records.{putNumber}
+use Rattle.cases.specs.Records.{put_number}
 
-pub put_step : (k : ℕ) (r : List ℕ) (o n : ℕ) → 0 < k → putNumber (k - 1) (set r (o + (k - 1)) (n % 256)) o (n / 256) ≡ putNumber k r o n
-unfolding putNumber
+pub put_step : (k : ℕ) (r : List ℕ) (o n : ℕ) → 0 < k → put_number (k - 1) (set r (o + (k - 1)) (n % 256)) o (n / 256) ≡ put_number k r o n
+unfolding put_number
 put_step zero r o n h = absurd (omega arith)
 put_step (suc k) r o n h = simp unary_clauses refl
 
-pub put-none : (k : ℕ) (r : List ℕ) (o n : ℕ) → k ≡ 0 → putNumber k r o n ≡ r
-unfolding putNumber
+pub put-none : (k : ℕ) (r : List ℕ) (o n : ℕ) → k ≡ 0 → put_number k r o n ≡ r
+unfolding put_number
 put-none zero r o n h = refl
 put-none (suc k) r o n h = absurd (omega arith)

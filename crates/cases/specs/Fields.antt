@@ -35,9 +35,9 @@ bits false true = 2
 bits true true = 3
 
 -- three bits, the lowest first
-abbrev pub threeBits : Bool → Bool → Bool → ℕ
-threeBits low middle false = bits low middle
-threeBits low middle true = 4 + bits low middle
+abbrev pub three_bits : Bool → Bool → Bool → ℕ
+three_bits low middle false = bits low middle
+three_bits low middle true = 4 + bits low middle
 
 abbrev pub absent : Optional
 absent = record { present = false; number = 0 }
@@ -45,21 +45,21 @@ absent = record { present = false; number = 0 }
 abbrev pub present : ℕ → Optional
 present n = record { present = true; number = n }
 
-abbrev pub modeField : MaybeMode → Optional
-modeField NoMode = absent
-modeField (Mode m) = present m.0
+abbrev pub mode_field : MaybeMode → Optional
+mode_field NoMode = absent
+mode_field (Mode m) = present m.0
 
-abbrev pub scopeField : MaybeScope → Optional
-scopeField NoScope = absent
-scopeField (Scope s) = present s.0
+abbrev pub scope_field : MaybeScope → Optional
+scope_field NoScope = absent
+scope_field (Scope s) = present s.0
 
-abbrev pub bindingField : MaybeBinding → Optional
-bindingField NoBinding = absent
-bindingField (Binding b) = present b.0
+abbrev pub binding_field : MaybeBinding → Optional
+binding_field NoBinding = absent
+binding_field (Binding b) = present b.0
 
-abbrev pub bankFields : MaybeBank → BankFields
-bankFields NoBank = record { present = false; index = 0; total = 0 }
-bankFields (Bank b) = record { present = true; index = b.index; total = b.total }
+abbrev pub bank_fields : MaybeBank → BankFields
+bank_fields NoBank = record { present = false; index = 0; total = 0 }
+bank_fields (Bank b) = record { present = true; index = b.index; total = b.total }
 
 abbrev pub physical : TimingDomain → Bool
 physical Logical = false
@@ -69,25 +69,25 @@ abbrev pub outbound : RouteDirection → Bool
 outbound Inbound = false
 outbound Outbound = true
 
-abbrev pub timerFields : MaybePeriod → TimingFields
-timerFields NoPeriod = record { kind = 2; period = false; nanos = 0 }
-timerFields (Period n) = record { kind = 2; period = true; nanos = n }
+abbrev pub timer_fields : MaybePeriod → TimingFields
+timer_fields NoPeriod = record { kind = 2; period = false; nanos = 0 }
+timer_fields (Period n) = record { kind = 2; period = true; nanos = n }
 
-abbrev pub timingFields : ActionTiming → TimingFields
-timingFields (Standard d n) = record { kind = bits (physical d) false; period = false; nanos = n }
-timingFields (Timer p) = timerFields p
-timingFields Shutdown = record { kind = 3; period = false; nanos = 0 }
+abbrev pub timing_fields : ActionTiming → TimingFields
+timing_fields (Standard d n) = record { kind = bits (physical d) false; period = false; nanos = n }
+timing_fields (Timer p) = timer_fields p
+timing_fields Shutdown = record { kind = 3; period = false; nanos = 0 }
 
-abbrev pub transitionKind : Transition → ℕ
-transitionKind Reset = 0
-transitionKind History = 1
+abbrev pub transition_kind : Transition → ℕ
+transition_kind Reset = 0
+transition_kind History = 1
 
-abbrev pub effectFields : MaybeModeEffect → EffectFields
-effectFields NoEffect = record { present = false; kind = 0; target = 0 }
-effectFields (Effect e) = record { present = true; kind = transitionKind e.transition; target = e.target.0 }
+abbrev pub effect_fields : MaybeModeEffect → EffectFields
+effect_fields NoEffect = record { present = false; kind = 0; target = 0 }
+effect_fields (Effect e) = record { present = true; kind = transition_kind e.transition; target = e.target.0 }
 
-abbrev pub bindingKind : BindingKind → ℕ
-bindingKind StateInitializer = 0
-bindingKind Reaction = 1
-bindingKind Port = 2
-bindingKind Action = 3
+abbrev pub binding_kind : BindingKind → ℕ
+binding_kind StateInitializer = 0
+binding_kind Reaction = 1
+binding_kind Port = 2
+binding_kind Action = 3

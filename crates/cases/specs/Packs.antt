@@ -32,15 +32,15 @@ abbrev pub reactor : ℕ → ℕ → ℕ → List ℕ
 reactor scope start len = rec 2 0 0 (W 0 ++ (W 0 ++ (W scope ++ (D start ++ D len))))
 
 -- the same with scope 0 and an empty modes span at 0, in a bank
-abbrev pub bankReactor : ℕ → ℕ → List ℕ
-bankReactor index total = rec 2 2 0 (W 0 ++ (W 0 ++ (W 0 ++ (D 0 ++ (D 0 ++ (W 0 ++ (W index ++ W total)))))))
+abbrev pub bank_reactor : ℕ → ℕ → List ℕ
+bank_reactor index total = rec 2 2 0 (W 0 ++ (W 0 ++ (W 0 ++ (D 0 ++ (D 0 ++ (W 0 ++ (W index ++ W total)))))))
 
 -- 3: an action in scope 0 with slot 0 and delay 0, by its kind; without a binding, or with one
 abbrev pub action : ℕ → List ℕ
 action kind = rec 3 0 kind []
 
-abbrev pub boundAction : ℕ → ℕ → ℕ → ℕ → List ℕ
-boundAction kind binding start len = rec 3 1 kind (W 0 ++ (W 0 ++ (W binding ++ (D 0 ++ (W start ++ W len)))))
+abbrev pub bound_action : ℕ → ℕ → ℕ → ℕ → List ℕ
+bound_action kind binding start len = rec 3 1 kind (W 0 ++ (W 0 ++ (W binding ++ (D 0 ++ (W start ++ W len)))))
 
 -- 4: a port in scope 0, by its binding and triggers
 abbrev pub port : ℕ → ℕ → ℕ → List ℕ
@@ -58,11 +58,11 @@ mode reactor scope = rec 6 0 0 (W reactor ++ W scope)
 abbrev pub scope : ℕ → List ℕ
 scope reactor = rec 7 0 0 (W 0 ++ W reactor)
 
-abbrev pub scopeUnder : ℕ → List ℕ
-scopeUnder parent = rec 7 1 0 (W parent)
+abbrev pub scope_under : ℕ → List ℕ
+scope_under parent = rec 7 1 0 (W parent)
 
-abbrev pub modeScope : ℕ → ℕ → List ℕ
-modeScope reactor mode = rec 7 2 0 (W 0 ++ (W reactor ++ W mode))
+abbrev pub mode_scope : ℕ → ℕ → List ℕ
+mode_scope reactor mode = rec 7 2 0 (W 0 ++ (W reactor ++ W mode))
 
 -- 8: a trigger, by its level and reaction
 abbrev pub trigger : ℕ → ℕ → List ℕ
@@ -76,14 +76,14 @@ binding kind start = rec 24 0 kind (W start ++ W 1)
 abbrev pub ab : List ℕ
 ab = 97 ∷ 98 ∷ []
 
-abbrev pub enclaveS : List ℕ
-enclaveS = enclave 0 1 1 0
+abbrev pub enclave_s : List ℕ
+enclave_s = enclave 0 1 1 0
 
-abbrev pub reactorS : List ℕ
-reactorS = reactor 0 0 0
+abbrev pub reactor_s : List ℕ
+reactor_s = reactor 0 0 0
 
-abbrev pub scopeS : List ℕ
-scopeS = scope 0
+abbrev pub scope_s : List ℕ
+scope_s = scope 0
 
-abbrev pub bindingS : List ℕ
-bindingS = binding 0 1
+abbrev pub binding_s : List ℕ
+binding_s = binding 0 1

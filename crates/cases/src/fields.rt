@@ -56,7 +56,7 @@ pub fn bits(low: bool, high: bool) -> u8
 
 // Three bits of a byte, the lowest first.
 pub fn three_bits(low: bool, middle: bool, high: bool) -> u8
-    ensures { result ≡ spec.threeBits low middle high }
+    ensures { result ≡ spec.three_bits low middle high }
 {
     if high {
         if low {
@@ -92,7 +92,7 @@ fn present(number: u32) -> Optional
 }
 
 pub fn mode_field(mode: MaybeMode) -> Optional
-    ensures { result ≡ spec.modeField mode }
+    ensures { result ≡ spec.mode_field mode }
 {
     match mode {
         MaybeMode::NoMode => absent(),
@@ -101,7 +101,7 @@ pub fn mode_field(mode: MaybeMode) -> Optional
 }
 
 pub fn scope_field(scope: MaybeScope) -> Optional
-    ensures { result ≡ spec.scopeField scope }
+    ensures { result ≡ spec.scope_field scope }
 {
     match scope {
         MaybeScope::NoScope => absent(),
@@ -110,7 +110,7 @@ pub fn scope_field(scope: MaybeScope) -> Optional
 }
 
 pub fn binding_field(binding: MaybeBinding) -> Optional
-    ensures { result ≡ spec.bindingField binding }
+    ensures { result ≡ spec.binding_field binding }
 {
     match binding {
         MaybeBinding::NoBinding => absent(),
@@ -119,7 +119,7 @@ pub fn binding_field(binding: MaybeBinding) -> Optional
 }
 
 pub fn bank_fields(bank: MaybeBank) -> BankFields
-    ensures { result ≡ spec.bankFields bank }
+    ensures { result ≡ spec.bank_fields bank }
 {
     match bank {
         MaybeBank::NoBank => BankFields {
@@ -154,7 +154,7 @@ pub fn outbound(direction: RouteDirection) -> bool
 }
 
 fn timer_fields(period: MaybePeriod) -> TimingFields
-    ensures { result ≡ spec.timerFields period }
+    ensures { result ≡ spec.timer_fields period }
 {
     match period {
         MaybePeriod::NoPeriod => TimingFields {
@@ -181,7 +181,7 @@ fn standard_fields(domain: TimingDomain, nanos: u64) -> TimingFields
 }
 
 pub fn timing_fields(timing: ActionTiming) -> TimingFields
-    ensures { result ≡ spec.timingFields timing }
+    ensures { result ≡ spec.timing_fields timing }
 {
     match timing {
         ActionTiming::Standard {
@@ -198,7 +198,7 @@ pub fn timing_fields(timing: ActionTiming) -> TimingFields
 }
 
 fn transition_kind(transition: Transition) -> u8
-    ensures { result ≡ spec.transitionKind transition }
+    ensures { result ≡ spec.transition_kind transition }
 {
     match transition {
         Transition::Reset => 0,
@@ -207,7 +207,7 @@ fn transition_kind(transition: Transition) -> u8
 }
 
 pub fn effect_fields(effect: MaybeModeEffect) -> EffectFields
-    ensures { result ≡ spec.effectFields effect }
+    ensures { result ≡ spec.effect_fields effect }
 {
     match effect {
         MaybeModeEffect::NoEffect => EffectFields {
@@ -227,7 +227,7 @@ pub fn effect_fields(effect: MaybeModeEffect) -> EffectFields
 }
 
 pub fn binding_kind(kind: BindingKind) -> u8
-    ensures { result ≡ spec.bindingKind kind }
+    ensures { result ≡ spec.binding_kind kind }
 {
     match kind {
         BindingKind::StateInitializer => 0,

@@ -2,7 +2,7 @@
 ghost use Rattle.std.specs.Prelude.{◌≡◌, [], ◌+◌, ◌*◌, ◌<◌, ◌≤◌, length};
 ghost use Rattle.std.proofs.Math.Seq.{paste};
 ghost use Rattle.cases.specs.Packs.{rec};
-ghost use Rattle.cases.specs.Records.{putNumber, federateRecord, enclaveRecord, reactorRecord, actionRecord, portRecord, reactionRecord, modeRecord, scopeMembersRecord, scopeRecord, triggerRecord, routeRecord, bindingRecord};
+ghost use Rattle.cases.specs.Records.{put_number, federate_record, enclave_record, reactor_record, action_record, port_record, reaction_record, mode_record, scope_members_record, scope_record, trigger_record, route_record, binding_record};
 
 use crate::fields;
 use identity::IdentityPlace;
@@ -29,7 +29,7 @@ fn start(table: u8, bits: u8, kind: u8) -> Record
 // The k bytes of a number from the offset `at`, high byte first: the last byte is written first.
 fn number(bytes: Record, at: usize, k: usize, value: u64) -> Record
     requires { at + k ≤ 64 }
-    ensures { result ≡ putNumber k bytes at value }
+    ensures { result ≡ put_number k bytes at value }
 {
     let mut bytes = bytes;
     let mut left = k;
@@ -44,41 +44,41 @@ fn number(bytes: Record, at: usize, k: usize, value: u64) -> Record
 
 fn word(bytes: Record, at: usize, value: u32) -> Record
     requires { at ≤ 60 }
-    ensures { result ≡ putNumber 4 bytes at value }
+    ensures { result ≡ put_number 4 bytes at value }
 {
     number(bytes, at, 4, value as u64)
 }
 
 fn long(bytes: Record, at: usize, value: u64) -> Record
     requires { at ≤ 56 }
-    ensures { result ≡ putNumber 8 bytes at value }
+    ensures { result ≡ put_number 8 bytes at value }
 {
     number(bytes, at, 8, value)
 }
 
 fn range(bytes: Record, at: usize, range: SliceRange) -> Record
     requires { at ≤ 56 }
-    ensures { result ≡ putNumber 4 (putNumber 4 bytes at range.start) (at + 4) range.len }
+    ensures { result ≡ put_number 4 (put_number 4 bytes at range.start) (at + 4) range.len }
 {
     word(word(bytes, at, range.start), at + 4, range.len)
 }
 
 fn span(bytes: Record, at: usize, span: IndexSpan) -> Record
     requires { at ≤ 48 }
-    ensures { result ≡ putNumber 8 (putNumber 8 bytes at span.start) (at + 8) span.len }
+    ensures { result ≡ put_number 8 (put_number 8 bytes at span.start) (at + 8) span.len }
 {
     long(long(bytes, at, span.start), at + 8, span.len)
 }
 
 fn place(bytes: Record, at: usize, id: IdentityPlace) -> Record
     requires { at ≤ 56 }
-    ensures { result ≡ putNumber 4 (putNumber 4 bytes at id.start) (at + 4) id.len }
+    ensures { result ≡ put_number 4 (put_number 4 bytes at id.start) (at + 4) id.len }
 {
     word(word(bytes, at, id.start), at + 4, id.len)
 }
 
 pub fn federate(row: FederateImage) -> Record
-    ensures { result ≡ federateRecord row }
+    ensures { result ≡ federate_record row }
 {
     let id = row.id;
     let target = row.target;
@@ -92,7 +92,7 @@ pub fn federate(row: FederateImage) -> Record
 }
 
 pub fn enclave(row: EnclaveImage) -> Record
-    ensures { result ≡ enclaveRecord row }
+    ensures { result ≡ enclave_record row }
 {
     let id = row.enclave_id;
     let bounds = row.storage_bounds;
@@ -107,7 +107,7 @@ pub fn enclave(row: EnclaveImage) -> Record
 }
 
 pub fn reactor(row: ReactorImage) -> Record
-    ensures { result ≡ reactorRecord row }
+    ensures { result ≡ reactor_record row }
 {
     let initial_mode = row.initial_mode;
     let bank = row.bank;
@@ -128,7 +128,7 @@ pub fn reactor(row: ReactorImage) -> Record
 }
 
 pub fn action(row: ActionImage) -> Record
-    ensures { result ≡ actionRecord row }
+    ensures { result ≡ action_record row }
 {
     let binding = row.binding;
     let timing = row.timing;
@@ -144,7 +144,7 @@ pub fn action(row: ActionImage) -> Record
 }
 
 pub fn port(row: PortImage) -> Record
-    ensures { result ≡ portRecord row }
+    ensures { result ≡ port_record row }
 {
     let r = start(PortImage::TABLE, 0, 0);
     let r = word(r, 4, row.binding.0);
@@ -153,7 +153,7 @@ pub fn port(row: PortImage) -> Record
 }
 
 pub fn reaction(row: ReactionImage) -> Record
-    ensures { result ≡ reactionRecord row }
+    ensures { result ≡ reaction_record row }
 {
     let effect = row.mode_effect;
     let effect = fields::effect_fields(effect);
@@ -171,7 +171,7 @@ pub fn reaction(row: ReactionImage) -> Record
 }
 
 pub fn mode(row: ModeImage) -> Record
-    ensures { result ≡ modeRecord row }
+    ensures { result ≡ mode_record row }
 {
     let r = start(ModeImage::TABLE, 0, 0);
     let r = word(r, 4, row.reactor.0);
@@ -180,7 +180,7 @@ pub fn mode(row: ModeImage) -> Record
 
 // A scope without its ranges of reactions.
 fn scope_members(row: ScopeImage) -> Record
-    ensures { result ≡ scopeMembersRecord row }
+    ensures { result ≡ scope_members_record row }
 {
     let parent = row.parent;
     let mode = row.mode;
@@ -200,7 +200,7 @@ fn scope_members(row: ScopeImage) -> Record
 }
 
 pub fn scope(row: ScopeImage) -> Record
-    ensures { result ≡ scopeRecord row }
+    ensures { result ≡ scope_record row }
 {
     let r = scope_members(row);
     let r = range(r, 40, row.reset_reactions);
@@ -209,7 +209,7 @@ pub fn scope(row: ScopeImage) -> Record
 }
 
 pub fn trigger(row: ReactionTrigger) -> Record
-    ensures { result ≡ triggerRecord row.0 }
+    ensures { result ≡ trigger_record row.0 }
 {
     let r = start(ReactionTrigger::TABLE, 0, 0);
     let r = word(r, 4, row.0.level);
@@ -217,7 +217,7 @@ pub fn trigger(row: ReactionTrigger) -> Record
 }
 
 pub fn route(row: RouteImage) -> Record
-    ensures { result ≡ routeRecord row }
+    ensures { result ≡ route_record row }
 {
     let id = row.boundary;
     let direction = row.direction;
@@ -230,7 +230,7 @@ pub fn route(row: RouteImage) -> Record
 }
 
 pub fn binding(row: RequiredBindingImage) -> Record
-    ensures { result ≡ bindingRecord row }
+    ensures { result ≡ binding_record row }
 {
     let id = row.id;
     let kind = row.kind;

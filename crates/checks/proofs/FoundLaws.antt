@@ -13,7 +13,7 @@ use Rattle.answers.specs.Checks.{Check, need, Looked, Decides}
 use Rattle.answers.proofs.Laws.{hit, miss, none, pass, fail, skip, stop}
 use Rattle.checks.specs.declared.Found.{Found}
 use Rattle.checks.specs.declared.Found.TheVariants as found
-use Rattle.checks.specs.Refs.{foundOutcome}
+use Rattle.checks.specs.Refs.{found_outcome}
 
 -- a row was found: the reference's test holds, and the row is the one named
 pub found-there : {b : Bool} {n m : ℕ} {r : Refusal} {f : Found} → Looked b (found.Row m) (found.Refused r) f → f ≡ found.Row n → b ≡ true
@@ -23,10 +23,10 @@ pub found-row : {b : Bool} {n m : ℕ} {r : Refusal} {f : Found} → Looked b (f
 found-row k e = let h = hit k (λ n. let z : ◌≡◌ {A = ℕ} 0 1 = cc in omega arith) in cc
 
 -- none was found: the reference's check decides
-pub found-lost : {b : Bool} {m : ℕ} {r t : Refusal} {f : Found} {o : Outcome} {cs : List Check} → Looked b (found.Row m) (found.Refused r) f → f ≡ found.Refused t → o ≡ foundOutcome f → Decides (need b r ∷ cs) o
+pub found-lost : {b : Bool} {m : ℕ} {r t : Refusal} {f : Found} {o : Outcome} {cs : List Check} → Looked b (found.Row m) (found.Refused r) f → f ≡ found.Refused t → o ≡ found_outcome f → Decides (need b r ∷ cs) o
 found-lost k e p =
     let h = miss k (λ n. let z : ◌≡◌ {A = ℕ} 0 1 = cc in omega arith) in
-    rw (p ∙ ap foundOutcome h.1) (fail h.0)
+    rw (p ∙ ap found_outcome h.1) (fail h.0)
 
 -- a reference alone: found, it passes
 pub found-passes : {b : Bool} {n m : ℕ} {r : Refusal} {f : Found} → Looked b (found.Row m) (found.Refused r) f → f ≡ found.Row n → Decides (need b r ∷ []) Passed

@@ -16,11 +16,11 @@ use Rattle.answers.proofs.Loops.{Remaining, remaining-start, remaining-step}
 use Rattle.schema.specs.declared.index.ActionIndex.{ActionIndex}
 use Rattle.schema.specs.declared.lists.LevelReactionImage.{LevelReactionImage}
 use Rattle.schema.specs.Number.{Words}
-use Rattle.schema.specs.Rows.{levelAt, lifecycleAt}
+use Rattle.schema.specs.Rows.{level_at, lifecycle_at}
 use Rattle.schema.proofs.Width.{second_at}
-use Rattle.checks.specs.Image.{ReactionPart, start_of, rows_of, reactionsAt, levelsAt, lifecyclesAt}
-use Rattle.checks.specs.Lists.{entryIndex, levelEqual, levelLess, levelOrderChecks, levelChecks, lifecycleChecks}
-use Rattle.checks.specs.PassedOver.{entry_of, entryChecks, PassedOver}
+use Rattle.checks.specs.Image.{ReactionPart, start_of, rows_of, reactions_at, levels_at, lifecycles_at}
+use Rattle.checks.specs.Lists.{entry_index, level_equal, level_less, level_order_checks, level_checks, lifecycle_checks}
+use Rattle.checks.specs.PassedOver.{entry_of, entry_checks, PassedOver}
 
 -- of two numbers that rise, the second's entry is neither equal to the first's nor below it
 module _ (x y : ℕ) (l : x < y) where
@@ -36,24 +36,24 @@ module _ (x y : ℕ) (l : x < y) where
       le-ltb (y % 4294967296) (x % 4294967296) (omega arith)
   parts-rise false e = refl
 
-not_equal : (x y : ℕ) → x < y → levelEqual (entry_of y) (entry_of x) ≡ false
+not_equal : (x y : ℕ) → x < y → level_equal (entry_of y) (entry_of x) ≡ false
 not_equal x y l = parts-differ x y l (eqb (y / 4294967296) (x / 4294967296)) refl
 
-not-less : (x y : ℕ) → x < y → levelLess (entry_of y) (entry_of x) ≡ false
+not-less : (x y : ℕ) → x < y → level_less (entry_of y) (entry_of x) ≡ false
 not-less x y l =
     rw (le-ltb (y / 4294967296) (x / 4294967296) (omega arith))
     (parts-rise x y l (eqb (y / 4294967296) (x / 4294967296)) refl)
 
-pub rises : (x y : ℕ) {t i : ℕ} → x < y → Decides (levelOrderChecks t i (entry_of y) (entry_of x)) Passed
+pub rises : (x y : ℕ) {t i : ℕ} → x < y → Decides (level_order_checks t i (entry_of y) (entry_of x)) Passed
 rises x y l = pass (ap not (not_equal x y l)) (pass (ap not (not-less x y l)) none)
 
 -- the two W's of a record are its entry
-pub level-read : {p : List ℕ} {m n x : ℕ} → m ≡ n → Words p (m * 64 + 4) x → entry_of x ≡ levelAt p n
-unfolding levelAt
+pub level-read : {p : List ℕ} {m n x : ℕ} → m ≡ n → Words p (m * 64 + 4) x → entry_of x ≡ level_at p n
+unfolding level_at
 level-read e w = rw (← e) (simp (w.first, second_at _ 4 w))
 
-pub lifecycle-read : {p : List ℕ} {m n x : ℕ} → m ≡ n → Words p (m * 64 + 4) x → entry_of x ≡ (lifecycleAt p n).reaction
-unfolding lifecycleAt
+pub lifecycle-read : {p : List ℕ} {m n x : ℕ} → m ≡ n → Words p (m * 64 + 4) x → entry_of x ≡ (lifecycle_at p n).reaction
+unfolding lifecycle_at
 lifecycle-read e w = rw (← e) (simp (w.first, second_at _ 4 w))
 
 -- the first k items pass, and `before` is read as the entry before k
@@ -77,7 +77,7 @@ passing_step {f = f} {k = k} x l d h =
     }
 
 -- the checks of equal entries; the entry before counts only after the first
-same_entries : (rows : ℕ → ℕ) (reactions : ℕ → ReactionPart) (t i k : ℕ) {b d e f : LevelReactionImage} → d ≡ f → ((k ≡ 0 → ⊥) → b ≡ e) → entryChecks rows reactions t i k b d ≡ entryChecks rows reactions t i k e f
+same_entries : (rows : ℕ → ℕ) (reactions : ℕ → ReactionPart) (t i k : ℕ) {b d e f : LevelReactionImage} → d ≡ f → ((k ≡ 0 → ⊥) → b ≡ e) → entry_checks rows reactions t i k b d ≡ entry_checks rows reactions t i k e f
 same_entries rows reactions t i zero h g = rw h
 same_entries rows reactions t i (suc k) h g =
     let d = g (λ z. omega arith) in
@@ -87,32 +87,32 @@ same_entries rows reactions t i (suc k) h g =
 module _ (p s : List ℕ) (t start n : ℕ) where
   abbrev pub LevelsPassing : ℕ → ℕ → Type 0
   LevelsPassing k before =
-      Passing (levelChecks (rows_of s) (reactionsAt p s) (levelsAt p s) t start) (λ j. levelsAt p s t (start + j)) entry_of n k before
+      Passing (level_checks (rows_of s) (reactions_at p s) (levels_at p s) t start) (λ j. levels_at p s t (start + j)) entry_of n k before
 
   abbrev pub LifecyclesPassing : ℕ → ℕ → Type 0
   LifecyclesPassing k before =
-      Passing (lifecycleChecks (rows_of s) (reactionsAt p s) (lifecyclesAt p s) t start) (λ j. (lifecyclesAt p s t (start + j)).reaction) entry_of n k before
+      Passing (lifecycle_checks (rows_of s) (reactions_at p s) (lifecycles_at p s) t start) (λ j. (lifecycles_at p s t (start + j)).reaction) entry_of n k before
 
   abbrev pub PairPasses : ℕ → ℕ → ℕ → Bool → Type 0
-  PairPasses k before pair b = (u i : ℕ) → PassesIf (entryChecks (rows_of s) (reactionsAt p s) u i k (entry_of before) (entry_of pair)) b
+  PairPasses k before pair b = (u i : ℕ) → PassesIf (entry_checks (rows_of s) (reactions_at p s) u i k (entry_of before) (entry_of pair)) b
 
   -- an entry passes by its number and the number before
-  by-numbers : (k before pair : ℕ) {b : Bool} {d e : LevelReactionImage} → entry_of pair ≡ e → ((k ≡ 0 → ⊥) → entry_of before ≡ d) → PairPasses k before pair b → not b ≡ false → Decides (entryChecks (rows_of s) (reactionsAt p s) t (entryIndex start k) k d e) Passed
+  by-numbers : (k before pair : ℕ) {b : Bool} {d e : LevelReactionImage} → entry_of pair ≡ e → ((k ≡ 0 → ⊥) → entry_of before ≡ d) → PairPasses k before pair b → not b ≡ false → Decides (entry_checks (rows_of s) (reactions_at p s) t (entry_index start k) k d e) Passed
   by-numbers k before pair {b = b} here last q h =
-      let i = entryIndex start k in
-      record { is = rw (← same_entries (rows_of s) (reactionsAt p s) t i k here last) (sym ((q t i).passes (not-false b h))) }
+      let i = entry_index start k in
+      record { is = rw (← same_entries (rows_of s) (reactions_at p s) t i k here last) (sym ((q t i).passes (not-false b h))) }
 
   pub level-step : {k m before pair : ℕ} {b : Bool} → LevelsPassing k before → k < n → m ≡ start_of s t + (start + k) → Words p (m * 64 + 4) pair → PairPasses k before pair b → not b ≡ false → LevelsPassing (k + 1) pair
-  unfolding levelChecks
+  unfolding level_checks
   level-step {k} {before = before} {pair} x l e w q h =
       let here = level-read e w in
       passing_step x l (by-numbers k before pair here x.last q h) here
 
-  pub lifecycle-step : {k m r before pair : ℕ} {a : ActionIndex} {b : Bool} → LifecyclesPassing k before → k < n → m ≡ start_of s t + (start + k) → a ≡ (lifecycleAt p m).action → r ≡ rows_of s 3 → a.0 < r → Words p (m * 64 + 4) pair → PairPasses k before pair b → not b ≡ false → LifecyclesPassing (k + 1) pair
-  unfolding lifecycleChecks
+  pub lifecycle-step : {k m r before pair : ℕ} {a : ActionIndex} {b : Bool} → LifecyclesPassing k before → k < n → m ≡ start_of s t + (start + k) → a ≡ (lifecycle_at p m).action → r ≡ rows_of s 3 → a.0 < r → Words p (m * 64 + 4) pair → PairPasses k before pair b → not b ≡ false → LifecyclesPassing (k + 1) pair
+  unfolding lifecycle_checks
   lifecycle-step {k} {m} {r} {before} {pair} {a} x l e action rows there w q h =
       let here = lifecycle-read e w in
-      let read : a ≡ (lifecyclesAt p s t (start + k)).action = rw (← e) action in
+      let read : a ≡ (lifecycles_at p s t (start + k)).action = rw (← e) action in
       passing_step x l (pass (rw (← read, ← rows) (lt-ltb a.0 r there)) (by-numbers k before pair here x.last q h)) here
 
 -- what is left after items that pass decides

@@ -1,7 +1,7 @@
 -- The image of an enclave: what its check looks at, and no more. Assumes nothing.
 use Rattle.std.specs.Prelude.{ℕ, ◌+◌, ◌-◌, ◌/◌, ◌<◌, ◌≤◌, Bool, true, false, List, get_or, length}
 use Rattle.identity.specs.declared.IdentityPlace.{IdentityPlace}
-use Rattle.identity.specs.Text.{identityText}
+use Rattle.identity.specs.Text.{identity_text}
 use Rattle.range.specs.declared.SliceRange.{SliceRange}
 use Rattle.schema.specs.declared.index.MaybeMode.{MaybeMode}
 use Rattle.schema.specs.declared.index.MaybeMode.TheVariants.{NoMode, Mode}
@@ -21,7 +21,7 @@ use Rattle.schema.specs.declared.rows.RouteImage.{RouteImage}
 use Rattle.schema.specs.declared.rows.RequiredBindingImage.{RequiredBindingImage}
 use Rattle.schema.specs.declared.lists.LevelReactionImage.{LevelReactionImage}
 use Rattle.schema.specs.declared.lists.LifecycleReactionImage.{LifecycleReactionImage}
-use Rattle.schema.specs.Rows.{enclaveAt, reactorAt, actionAt, portAt, reactionAt, modeAt, scopeAt, index_at, levelAt, startupAt, lifecycleAt, routeAt, bindingAt}
+use Rattle.schema.specs.Rows.{enclave_at, reactor_at, action_at, port_at, reaction_at, mode_at, scope_at, index_at, level_at, startup_at, lifecycle_at, route_at, binding_at}
 
 -- an action without its delay, domain and period
 pub record ActionPart : Type 0 where
@@ -31,17 +31,17 @@ pub record ActionPart : Type 0 where
   pub binding : MaybeBinding
   pub triggers : SliceRange
 
-abbrev pub isStandard : ActionTiming → Bool
-isStandard (Standard d n) = true
-isStandard (Timer p) = false
-isStandard Shutdown = false
+abbrev pub is_standard : ActionTiming → Bool
+is_standard (Standard d n) = true
+is_standard (Timer p) = false
+is_standard Shutdown = false
 
-abbrev pub actionPart : ActionImage → ActionPart
-actionPart a =
+abbrev pub action_part : ActionImage → ActionPart
+action_part a =
     record {
       scope = a.scope.0;
       slot = a.storage_slot;
-      standard = isStandard a.timing;
+      standard = is_standard a.timing;
       binding = a.binding;
       triggers = a.triggers;
     }
@@ -58,12 +58,12 @@ pub record ReactionPart : Type 0 where
   pub enabled : SliceRange
   pub target : MaybeMode
 
-abbrev pub effectTarget : MaybeModeEffect → MaybeMode
-effectTarget NoEffect = NoMode
-effectTarget (Effect e) = Mode e.target
+abbrev pub effect_target : MaybeModeEffect → MaybeMode
+effect_target NoEffect = NoMode
+effect_target (Effect e) = Mode e.target
 
-abbrev pub reactionPart : ReactionImage → ReactionPart
-reactionPart r =
+abbrev pub reaction_part : ReactionImage → ReactionPart
+reaction_part r =
     record {
       reactor = r.reactor.0;
       scope = r.scope.0;
@@ -73,7 +73,7 @@ reactionPart r =
       effects = r.effect_ports;
       actions = r.actions;
       enabled = r.enabled_modes;
-      target = effectTarget r.mode_effect;
+      target = effect_target r.mode_effect;
     }
 
 -- a route without its domain and delay
@@ -82,8 +82,8 @@ pub record RoutePart : Type 0 where
   pub port : ℕ
   pub direction : RouteDirection
 
-abbrev pub routePart : RouteImage → RoutePart
-routePart r = record { boundary = r.boundary; port = r.local_port.0; direction = r.direction }
+abbrev pub route_part : RouteImage → RoutePart
+route_part r = record { boundary = r.boundary; port = r.local_port.0; direction = r.direction }
 
 -- how many rows each table has; the rows, by their index, and those of a list table by table and index;
 -- the text that an identity names; the two slot bounds
@@ -101,10 +101,10 @@ pub record Image : Type 0 where
   pub lifecycles : ℕ → ℕ → LifecycleReactionImage
   pub routes : ℕ → RoutePart
   pub bindings : ℕ → RequiredBindingImage
-  pub enclaveId : IdentityPlace
+  pub enclave_id : IdentityPlace
   pub text : IdentityPlace → List ℕ
-  pub stateSlots : ℕ
-  pub actionSlots : ℕ
+  pub state_slots : ℕ
+  pub action_slots : ℕ
 
 -- s holds the record number of each table's first row; table t has the rows up to the next table's first
 abbrev pub start_of : List ℕ → ℕ → ℕ
@@ -122,43 +122,43 @@ abbrev pub Within : List ℕ → List ℕ → Type 0
 Within p s = get_or s 25 0 ≤ length p / 64
 
 -- the rows of a table as functions of the index, where another row's checks need them
-abbrev pub reactionsAt : List ℕ → List ℕ → ℕ → ReactionPart
-reactionsAt p s i = reactionPart (reactionAt p (start_of s 5 + i))
+abbrev pub reactions_at : List ℕ → List ℕ → ℕ → ReactionPart
+reactions_at p s i = reaction_part (reaction_at p (start_of s 5 + i))
 
-abbrev pub modesAt : List ℕ → List ℕ → ℕ → ModeImage
-modesAt p s i = modeAt p (start_of s 6 + i)
+abbrev pub modes_at : List ℕ → List ℕ → ℕ → ModeImage
+modes_at p s i = mode_at p (start_of s 6 + i)
 
-abbrev pub scopesAt : List ℕ → List ℕ → ℕ → ScopeImage
-scopesAt p s i = scopeAt p (start_of s 7 + i)
+abbrev pub scopes_at : List ℕ → List ℕ → ℕ → ScopeImage
+scopes_at p s i = scope_at p (start_of s 7 + i)
 
-abbrev pub bindingsAt : List ℕ → List ℕ → ℕ → RequiredBindingImage
-bindingsAt p s i = bindingAt p (start_of s 24 + i)
+abbrev pub bindings_at : List ℕ → List ℕ → ℕ → RequiredBindingImage
+bindings_at p s i = binding_at p (start_of s 24 + i)
 
-abbrev pub levelsAt : List ℕ → List ℕ → ℕ → ℕ → LevelReactionImage
-levelsAt p s t i = levelAt p (start_of s t + i)
+abbrev pub levels_at : List ℕ → List ℕ → ℕ → ℕ → LevelReactionImage
+levels_at p s t i = level_at p (start_of s t + i)
 
-abbrev pub lifecyclesAt : List ℕ → List ℕ → ℕ → ℕ → LifecycleReactionImage
-lifecyclesAt p s t i = lifecycleAt p (start_of s t + i)
+abbrev pub lifecycles_at : List ℕ → List ℕ → ℕ → ℕ → LifecycleReactionImage
+lifecycles_at p s t i = lifecycle_at p (start_of s t + i)
 
 -- the image of the enclave of record n of the pack p, whose tables begin at s
 abbrev pub image : List ℕ → List ℕ → List ℕ → List ℕ → ℕ → Image
 image p batch house s n =
     record {
       rows = rows_of s;
-      reactors = λ i. reactorAt p (start_of s 2 + i);
-      actions = λ i. actionPart (actionAt p (start_of s 3 + i));
-      ports = λ i. portAt p (start_of s 4 + i);
-      reactions = reactionsAt p s;
-      modes = modesAt p s;
-      scopes = scopesAt p s;
+      reactors = λ i. reactor_at p (start_of s 2 + i);
+      actions = λ i. action_part (action_at p (start_of s 3 + i));
+      ports = λ i. port_at p (start_of s 4 + i);
+      reactions = reactions_at p s;
+      modes = modes_at p s;
+      scopes = scopes_at p s;
       indexes = λ t i. index_at p (start_of s t + i);
-      levels = levelsAt p s;
-      startups = λ t i. (startupAt p (start_of s t + i)).action.0;
-      lifecycles = lifecyclesAt p s;
-      routes = λ i. routePart (routeAt p (start_of s 23 + i));
-      bindings = bindingsAt p s;
-      enclaveId = (enclaveAt p n).enclave_id;
-      text = λ id. identityText batch house id;
-      stateSlots = (enclaveAt p n).storage_bounds.state_slots;
-      actionSlots = (enclaveAt p n).storage_bounds.action_slots;
+      levels = levels_at p s;
+      startups = λ t i. (startup_at p (start_of s t + i)).action.0;
+      lifecycles = lifecycles_at p s;
+      routes = λ i. route_part (route_at p (start_of s 23 + i));
+      bindings = bindings_at p s;
+      enclave_id = (enclave_at p n).enclave_id;
+      text = λ id. identity_text batch house id;
+      state_slots = (enclave_at p n).storage_bounds.state_slots;
+      action_slots = (enclave_at p n).storage_bounds.action_slots;
     }

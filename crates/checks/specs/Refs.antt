@@ -4,7 +4,7 @@ use Rattle.range.specs.declared.CheckedEnd.{CheckedEnd}
 use Rattle.range.specs.declared.CheckedEnd.TheVariants.{End, NoEnd}
 use Rattle.range.specs.declared.SliceRange.{SliceRange}
 use Rattle.range.specs.declared.IndexSpan.{IndexSpan}
-use Rattle.range.specs.Range.{checkedEnd, saturatingEnd}
+use Rattle.range.specs.Range.{checked_end, saturating_end}
 use Rattle.answers.specs.declared.Refusal.TheVariants.{TableTooLarge, ReferenceOutOfBounds, RangeOutOfBounds, RangesNotMonotonic}
 use Rattle.answers.specs.declared.Outcome.{Outcome}
 use Rattle.answers.specs.declared.Outcome.TheVariants.{Passed, Refused}
@@ -14,43 +14,43 @@ use Rattle.checks.specs.declared.Found.TheVariants as found
 use Rattle.checks.specs.Image.{start_of, rows_of}
 
 -- a table fits its key's domain, 2 ^ 32 rows
-abbrev pub lengthCheck : (ℕ → ℕ) → ℕ → Check
-lengthCheck rows t = need (leb (rows t) (2 ^ 32)) (TableTooLarge t)
+abbrev pub length_check : (ℕ → ℕ) → ℕ → Check
+length_check rows t = need (leb (rows t) (2 ^ 32)) (TableTooLarge t)
 
 -- row i of table t refers, in the field f, to row v of table g
-abbrev pub refTo : (ℕ → ℕ) → ℕ → ℕ → ℕ → ℕ → ℕ → Check
-refTo rows t i f g v = need (ltb v (rows g)) (ReferenceOutOfBounds t i f g v)
+abbrev pub ref_to : (ℕ → ℕ) → ℕ → ℕ → ℕ → ℕ → ℕ → Check
+ref_to rows t i f g v = need (ltb v (rows g)) (ReferenceOutOfBounds t i f g v)
 
 -- what a lookup of that reference answers: the record number of the row, or the refusal
 abbrev pub LookedUp : List ℕ → ℕ → ℕ → ℕ → ℕ → ℕ → Found → Type 0
 LookedUp s t i f g v r =
     Looked (ltb v (rows_of s g)) (found.Row (start_of s g + v)) (found.Refused (ReferenceOutOfBounds t i f g v)) r
 
-abbrev pub foundOutcome : Found → Outcome
-foundOutcome (found.Row n) = Passed
-foundOutcome (found.Refused r) = Refused r
+abbrev pub found_outcome : Found → Outcome
+found_outcome (found.Row n) = Passed
+found_outcome (found.Refused r) = Refused r
 
-abbrev pub endWithin : CheckedEnd → ℕ → Bool
-endWithin (End e) n = leb e n
-endWithin NoEnd n = false
+abbrev pub end_within : CheckedEnd → ℕ → Bool
+end_within (End e) n = leb e n
+end_within NoEnd n = false
 
 -- the range or span of row i of table t in the field f lies in table g, and not before the end of the row before
-abbrev pub spanChecks : (ℕ → ℕ) → ℕ → ℕ → ℕ → ℕ → ℕ → ℕ → ℕ → List Check
-spanChecks rows t i f g start len previous =
-    need (endWithin (checkedEnd start len) (rows g)) (RangeOutOfBounds t i f g start len)
+abbrev pub span_checks : (ℕ → ℕ) → ℕ → ℕ → ℕ → ℕ → ℕ → ℕ → ℕ → List Check
+span_checks rows t i f g start len previous =
+    need (end_within (checked_end start len) (rows g)) (RangeOutOfBounds t i f g start len)
     ∷ need (leb previous start) (RangesNotMonotonic t i f start previous)
     ∷ []
 
-abbrev pub rangeChecks : (ℕ → ℕ) → ℕ → ℕ → ℕ → ℕ → SliceRange → ℕ → List Check
-rangeChecks rows t i f g r previous = spanChecks rows t i f g r.start r.len previous
+abbrev pub range_checks : (ℕ → ℕ) → ℕ → ℕ → ℕ → ℕ → SliceRange → ℕ → List Check
+range_checks rows t i f g r previous = span_checks rows t i f g r.start r.len previous
 
 -- where a range, or a span, ends
-abbrev pub rangeEnd : SliceRange → ℕ
-rangeEnd r = saturatingEnd r.start r.len
+abbrev pub range_end : SliceRange → ℕ
+range_end r = saturating_end r.start r.len
 
-abbrev pub spanEnd : IndexSpan → ℕ
-spanEnd r = saturatingEnd r.start r.len
+abbrev pub span_end : IndexSpan → ℕ
+span_end r = saturating_end r.start r.len
 
 -- where row i - 1's range ends; 0 before the first row
-abbrev pub endBefore : (ℕ → ℕ) → ℕ → ℕ
-endBefore end i = cond (eqb i 0) 0 (end (i - 1))
+abbrev pub end_before : (ℕ → ℕ) → ℕ → ℕ
+end_before end i = cond (eqb i 0) 0 (end (i - 1))

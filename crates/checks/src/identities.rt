@@ -1,8 +1,8 @@
 // Identities: valid, and above the identity before.
 ghost use Rattle.std.specs.Prelude.{[], ◌∷◌};
-ghost use Rattle.identity.specs.Text.{identityText};
+ghost use Rattle.identity.specs.Text.{identity_text};
 ghost use Rattle.answers.specs.Checks.{Decides};
-ghost use Rattle.checks.specs.Identities.{idCheck, idOrderChecks};
+ghost use Rattle.checks.specs.Identities.{id_check, id_order_checks};
 
 use answers::{Outcome, Refusal};
 use identity::{ByteOrder, IdentityPlace};
@@ -15,7 +15,7 @@ pub fn validate_id<'a>(
     index: u32,
     id: IdentityPlace,
 ) -> Outcome
-    ensures { Decides (idCheck (identityText batch.now house.now) kind index id ∷ []) result }
+    ensures { Decides (id_check (identity_text batch.now house.now) kind index id ∷ []) result }
 {
     if identity::scan::valid_id(identity::place::identity_text(batch, house, id)) {
         return Outcome::Passed;
@@ -32,7 +32,7 @@ pub fn validate_id_order<'a>(
     id: IdentityPlace,
     before: IdentityPlace,
 ) -> Outcome
-    ensures { Decides (idOrderChecks (identityText batch.now house.now) kind index id before) result }
+    ensures { Decides (id_order_checks (identity_text batch.now house.now) kind index id before) result }
 {
     let order = identity::compare::compare_places(batch, house, id, before);
     match order {

@@ -4,7 +4,7 @@ pub mod lists;
 pub mod refs;
 
 ghost use Rattle.std.specs.Prelude.{◌≡◌};
-ghost use Rattle.checks.specs.Refs.{foundOutcome};
+ghost use Rattle.checks.specs.Refs.{found_outcome};
 
 use answers::{Outcome, Refusal};
 
@@ -18,7 +18,7 @@ pub enum Found {
 impl Found {
     // The refusal, to be passed up.
     pub fn refused(self) -> Outcome
-        ensures { result ≡ foundOutcome self }
+        ensures { result ≡ found_outcome self }
     {
         match self {
             Found::Row(_) => Outcome::Passed,

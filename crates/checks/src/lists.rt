@@ -1,12 +1,12 @@
 // Lists of reactions by level, and of lifecycle reactions.
 ghost use Rattle.std.specs.Prelude.{◌≡◌, [], ◌∷◌, ◌++◌, ℕ, ◌+◌, ◌/◌, ◌<◌, length};
 ghost use Rattle.answers.specs.Checks.{first, Decides};
-ghost use Rattle.answers.specs.PassesIf.{isPassed, PassesIf};
-ghost use Rattle.checks.specs.Image.{rows_of, reactionsAt, levelsAt, lifecyclesAt, Rising, Within};
-ghost use Rattle.checks.specs.Lists.{entryIndex, levelEqual, levelLess, levelRefChecks, levelOrderChecks, levelChecks, lifecycleChecks, levelsChecks, lifecyclesChecks};
-ghost use Rattle.checks.specs.PassedOver.{entry_of, entryChecks, PassedOver};
-ghost use Rattle.checks.specs.Refs.{refTo};
-ghost use Rattle.schema.specs.Rows.{Whole, levelAt, lifecycleAt};
+ghost use Rattle.answers.specs.PassesIf.{is_passed, PassesIf};
+ghost use Rattle.checks.specs.Image.{rows_of, reactions_at, levels_at, lifecycles_at, Rising, Within};
+ghost use Rattle.checks.specs.Lists.{entry_index, level_equal, level_less, level_ref_checks, level_order_checks, level_checks, lifecycle_checks, levels_checks, lifecycles_checks};
+ghost use Rattle.checks.specs.PassedOver.{entry_of, entry_checks, PassedOver};
+ghost use Rattle.checks.specs.Refs.{ref_to};
+ghost use Rattle.schema.specs.Rows.{Whole, level_at, lifecycle_at};
 
 use crate::Found;
 use answers::{Outcome, Refusal, field};
@@ -17,13 +17,13 @@ use schema::{TableStarts, number, parts, read, read_lists};
 
 // The row number shown for entry k of a range.
 pub fn entry_index(start: u32, k: u32) -> u32
-    ensures { result ≡ entryIndex start k }
+    ensures { result ≡ entry_index start k }
 {
     ((start as u64 + k as u64) % 0x1_0000_0000) as u32
 }
 
 fn level_equal(a: LevelReactionImage, b: LevelReactionImage) -> bool
-    ensures { result ≡ levelEqual a b }
+    ensures { result ≡ level_equal a b }
 {
     if a.level != b.level {
         return false;
@@ -35,7 +35,7 @@ fn level_equal(a: LevelReactionImage, b: LevelReactionImage) -> bool
 
 // By level, then by reaction.
 fn level_less(a: LevelReactionImage, b: LevelReactionImage) -> bool
-    ensures { result ≡ levelLess a b }
+    ensures { result ≡ level_less a b }
 {
     if a.level < b.level {
         return true;
@@ -57,7 +57,7 @@ pub fn validate_level_ref(
     entry: LevelReactionImage,
 ) -> Outcome
     requires { Whole p.now × (Rising s.now × Within p.now s.now) }
-    ensures { Decides (levelRefChecks (rows_of s.now) (reactionsAt p.now s.now) table index entry) result }
+    ensures { Decides (level_ref_checks (rows_of s.now) (reactions_at p.now s.now) table index entry) result }
 {
     let key = entry.reaction;
     let found = crate::refs::check_reaction_ref(s, table, index, field::REACTION, key);
@@ -81,7 +81,7 @@ fn check_level_order(
     entry: LevelReactionImage,
     before: LevelReactionImage,
 ) -> Outcome
-    ensures { Decides (levelOrderChecks table index entry before) result }
+    ensures { Decides (level_order_checks table index entry before) result }
 {
     if level_equal(entry, before) {
         return Outcome::Refused(Refusal::DuplicateEntry { table, index });
@@ -95,7 +95,7 @@ fn check_level_order(
 // Entry k of the range of a table that begins at `start`.
 fn level_entry(p: &[u8], s: &TableStarts, table: u8, start: u32, k: u32) -> LevelReactionImage
     requires { Whole p.now × (Rising s.now × (Within p.now s.now × (table < 25))) }
-    ensures { result ≡ levelsAt p.now s.now table (start + k) }
+    ensures { result ≡ levels_at p.now s.now table (start + k) }
 {
     let t = table as usize;
     read_lists::level_at(p, crate::refs::row_in(s[t], start, k))
@@ -110,7 +110,7 @@ fn lifecycle_reaction(
     k: u32,
 ) -> LevelReactionImage
     requires { Whole p.now × (Rising s.now × (Within p.now s.now × (table < 25))) }
-    ensures { result ≡ (lifecyclesAt p.now s.now table (start + k)).reaction }
+    ensures { result ≡ (lifecycles_at p.now s.now table (start + k)).reaction }
 {
     let t = table as usize;
     parts::lifecycle_reaction_at(p, crate::refs::row_in(s[t], start, k))
@@ -118,7 +118,7 @@ fn lifecycle_reaction(
 
 fn lifecycle_action(p: &[u8], s: &TableStarts, table: u8, start: u32, k: u32) -> ActionIndex
     requires { Whole p.now × (Rising s.now × (Within p.now s.now × (table < 25))) }
-    ensures { result ≡ (lifecyclesAt p.now s.now table (start + k)).action }
+    ensures { result ≡ (lifecycles_at p.now s.now table (start + k)).action }
 {
     let t = table as usize;
     parts::lifecycle_action_at(p, crate::refs::row_in(s[t], start, k))
@@ -126,7 +126,7 @@ fn lifecycle_action(p: &[u8], s: &TableStarts, table: u8, start: u32, k: u32) ->
 
 fn check_level(p: &[u8], s: &TableStarts, table: u8, start: u32, k: u32) -> Outcome
     requires { Whole p.now × (Rising s.now × (Within p.now s.now × (table < 25))) }
-    ensures { Decides (levelChecks (rows_of s.now) (reactionsAt p.now s.now) (levelsAt p.now s.now) table start k) result }
+    ensures { Decides (level_checks (rows_of s.now) (reactions_at p.now s.now) (levels_at p.now s.now) table start k) result }
 {
     let index = entry_index(start, k);
     let entry = level_entry(p, s, table, start, k);
@@ -142,7 +142,7 @@ fn check_level(p: &[u8], s: &TableStarts, table: u8, start: u32, k: u32) -> Outc
 
 pub fn check_lifecycle(p: &[u8], s: &TableStarts, table: u8, start: u32, k: u32) -> Outcome
     requires { Whole p.now × (Rising s.now × (Within p.now s.now × (table < 25))) }
-    ensures { Decides (lifecycleChecks (rows_of s.now) (reactionsAt p.now s.now) (lifecyclesAt p.now s.now) table start k) result }
+    ensures { Decides (lifecycle_checks (rows_of s.now) (reactions_at p.now s.now) (lifecycles_at p.now s.now) table start k) result }
 {
     let index = entry_index(start, k);
     let action = lifecycle_action(p, s, table, start, k);
@@ -165,7 +165,7 @@ pub fn check_lifecycle(p: &[u8], s: &TableStarts, table: u8, start: u32, k: u32)
 // An entry's action is there.
 pub fn check_action(s: &TableStarts, table: u8, index: u32, action: ActionIndex) -> Outcome
     requires { Rising s.now }
-    ensures { Decides (refTo (rows_of s.now) table index 29 3 action.0 ∷ []) result }
+    ensures { Decides (ref_to (rows_of s.now) table index 29 3 action.0 ∷ []) result }
 {
     let found = crate::refs::check_action_ref(s, table, index, field::ACTION, action);
     let Found::Row(_n) = found else {
@@ -177,7 +177,7 @@ pub fn check_action(s: &TableStarts, table: u8, index: u32, action: ActionIndex)
 // Whether an entry, read as one number, names a reaction that is there and has the entry's level.
 fn has_level(p: &[u8], s: &TableStarts, pair: u64) -> bool
     requires { Whole p.now × (Rising s.now × Within p.now s.now) }
-    ensures { (t i : ℕ) → result ≡ isPassed (first (levelRefChecks (rows_of s.now) (reactionsAt p.now s.now) t i (entry_of pair))) }
+    ensures { (t i : ℕ) → result ≡ is_passed (first (level_ref_checks (rows_of s.now) (reactions_at p.now s.now) t i (entry_of pair))) }
 {
     let reaction = number::low(pair);
     if crate::refs::rows_of(s, ReactionImage::TABLE) <= reaction {
@@ -190,7 +190,7 @@ fn has_level(p: &[u8], s: &TableStarts, pair: u64) -> bool
 // Whether record n, an entry of a table of reactions by level, names a reaction that is there and has its level, as whichever row of whichever table it is shown.
 pub fn level_entry_passes(p: &[u8], s: &TableStarts, n: usize) -> bool
     requires { Whole p.now × (Rising s.now × (Within p.now s.now × (n < length p.now / 64))) }
-    ensures { (t i : ℕ) → result ≡ isPassed (first (levelRefChecks (rows_of s.now) (reactionsAt p.now s.now) t i (levelAt p.now n))) }
+    ensures { (t i : ℕ) → result ≡ is_passed (first (level_ref_checks (rows_of s.now) (reactions_at p.now s.now) t i (level_at p.now n))) }
 {
     has_level(p, s, read::words_of(p, n, 4))
 }
@@ -198,7 +198,7 @@ pub fn level_entry_passes(p: &[u8], s: &TableStarts, n: usize) -> bool
 // The same for an entry of a table of lifecycle reactions, whose action is there too.
 pub fn lifecycle_entry_passes(p: &[u8], s: &TableStarts, n: usize) -> bool
     requires { Whole p.now × (Rising s.now × (Within p.now s.now × (n < length p.now / 64))) }
-    ensures { (t i : ℕ) → result ≡ isPassed (first ((refTo (rows_of s.now) t i 29 3 (lifecycleAt p.now n).action.0 ∷ []) ++ levelRefChecks (rows_of s.now) (reactionsAt p.now s.now) t i (lifecycleAt p.now n).reaction)) }
+    ensures { (t i : ℕ) → result ≡ is_passed (first ((ref_to (rows_of s.now) t i 29 3 (lifecycle_at p.now n).action.0 ∷ []) ++ level_ref_checks (rows_of s.now) (reactions_at p.now s.now) t i (lifecycle_at p.now n).reaction)) }
 {
     let action = parts::lifecycle_action_of(p, n);
     if crate::refs::rows_of(s, ActionImage::TABLE) <= action.0 {
@@ -210,7 +210,7 @@ pub fn lifecycle_entry_passes(p: &[u8], s: &TableStarts, n: usize) -> bool
 // A quick test of entry k and of the entry before it, each read as one number. The level is the high half, so entries rise as their numbers do.
 fn level_passes(p: &[u8], s: &TableStarts, k: u32, before: u64, pair: u64) -> bool
     requires { Whole p.now × (Rising s.now × Within p.now s.now) }
-    ensures { (t i : ℕ) → PassesIf (entryChecks (rows_of s.now) (reactionsAt p.now s.now) t i k (entry_of before) (entry_of pair)) result }
+    ensures { (t i : ℕ) → PassesIf (entry_checks (rows_of s.now) (reactions_at p.now s.now) t i k (entry_of before) (entry_of pair)) result }
 {
     if !has_level(p, s, pair) {
         return false;
@@ -224,7 +224,7 @@ fn level_passes(p: &[u8], s: &TableStarts, k: u32, before: u64, pair: u64) -> bo
 // How many of the `len` entries from `start` are seen to pass, from the first on. The number before is kept, so each is read once. An entry past the pack is left to the full check, so that the reader need not test for it again.
 fn levels_past(p: &[u8], s: &TableStarts, table: u8, start: u32, len: u32) -> u32
     requires { Whole p.now × (Rising s.now × (Within p.now s.now × (table < 25))) }
-    ensures { PassedOver (levelChecks (rows_of s.now) (reactionsAt p.now s.now) (levelsAt p.now s.now) table start) len result }
+    ensures { PassedOver (level_checks (rows_of s.now) (reactions_at p.now s.now) (levels_at p.now s.now) table start) len result }
 {
     let t = table as usize;
     let first = s[t];
@@ -248,7 +248,7 @@ fn levels_past(p: &[u8], s: &TableStarts, table: u8, start: u32, len: u32) -> u3
 // The `len` entries from `start` of a table of reactions by level. Those not seen to pass at once are checked one by one, for the refusal.
 fn check_levels(p: &[u8], s: &TableStarts, table: u8, start: u32, len: u32) -> Outcome
     requires { Whole p.now × (Rising s.now × (Within p.now s.now × (table < 25))) }
-    ensures { Decides (levelsChecks (rows_of s.now) (reactionsAt p.now s.now) (levelsAt p.now s.now) table start len) result }
+    ensures { Decides (levels_checks (rows_of s.now) (reactions_at p.now s.now) (levels_at p.now s.now) table start len) result }
 {
     let mut k = levels_past(p, s, table, start, len);
     while k < len {
@@ -264,7 +264,7 @@ fn check_levels(p: &[u8], s: &TableStarts, table: u8, start: u32, len: u32) -> O
 // The same. An empty range, the usual one, is answered at once.
 pub fn validate_levels(p: &[u8], s: &TableStarts, table: u8, start: u32, len: u32) -> Outcome
     requires { Whole p.now × (Rising s.now × (Within p.now s.now × (table < 25))) }
-    ensures { Decides (levelsChecks (rows_of s.now) (reactionsAt p.now s.now) (levelsAt p.now s.now) table start len) result }
+    ensures { Decides (levels_checks (rows_of s.now) (reactions_at p.now s.now) (levels_at p.now s.now) table start len) result }
 {
     if len == 0 {
         return Outcome::Passed;
@@ -273,7 +273,7 @@ pub fn validate_levels(p: &[u8], s: &TableStarts, table: u8, start: u32, len: u3
 }
 
 fn is_passed(outcome: Outcome) -> bool
-    ensures { result ≡ isPassed outcome }
+    ensures { result ≡ is_passed outcome }
 {
     match outcome {
         Outcome::Passed => true,
@@ -284,7 +284,7 @@ fn is_passed(outcome: Outcome) -> bool
 // Whether the `len` entries from `start` pass, for callers that have many ranges: most are seen to pass at once, and the others are checked one by one.
 pub fn levels_pass(p: &[u8], s: &TableStarts, table: u8, start: u32, len: u32) -> bool
     requires { Whole p.now × (Rising s.now × (Within p.now s.now × (table < 25))) }
-    ensures { result ≡ isPassed (first (levelsChecks (rows_of s.now) (reactionsAt p.now s.now) (levelsAt p.now s.now) table start len)) }
+    ensures { result ≡ is_passed (first (levels_checks (rows_of s.now) (reactions_at p.now s.now) (levels_at p.now s.now) table start len)) }
 {
     if len == 0 {
         return true;
@@ -298,7 +298,7 @@ pub fn levels_pass(p: &[u8], s: &TableStarts, table: u8, start: u32, len: u32) -
 // How many of the `len` lifecycle reactions from `start` are seen to pass, in the same way: the action is there too.
 fn lifecycles_past(p: &[u8], s: &TableStarts, table: u8, start: u32, len: u32) -> u32
     requires { Whole p.now × (Rising s.now × (Within p.now s.now × (table < 25))) }
-    ensures { PassedOver (lifecycleChecks (rows_of s.now) (reactionsAt p.now s.now) (lifecyclesAt p.now s.now) table start) len result }
+    ensures { PassedOver (lifecycle_checks (rows_of s.now) (reactions_at p.now s.now) (lifecycles_at p.now s.now) table start) len result }
 {
     let t = table as usize;
     let first = s[t];
@@ -326,7 +326,7 @@ fn lifecycles_past(p: &[u8], s: &TableStarts, table: u8, start: u32, len: u32) -
 // The `len` entries from `start` of a table of lifecycle reactions, likewise.
 fn check_lifecycles(p: &[u8], s: &TableStarts, table: u8, start: u32, len: u32) -> Outcome
     requires { Whole p.now × (Rising s.now × (Within p.now s.now × (table < 25))) }
-    ensures { Decides (lifecyclesChecks (rows_of s.now) (reactionsAt p.now s.now) (lifecyclesAt p.now s.now) table start len) result }
+    ensures { Decides (lifecycles_checks (rows_of s.now) (reactions_at p.now s.now) (lifecycles_at p.now s.now) table start len) result }
 {
     let mut k = lifecycles_past(p, s, table, start, len);
     while k < len {
@@ -342,7 +342,7 @@ fn check_lifecycles(p: &[u8], s: &TableStarts, table: u8, start: u32, len: u32) 
 // The same. An empty range, the usual one, is answered at once.
 pub fn validate_lifecycle(p: &[u8], s: &TableStarts, table: u8, start: u32, len: u32) -> Outcome
     requires { Whole p.now × (Rising s.now × (Within p.now s.now × (table < 25))) }
-    ensures { Decides (lifecyclesChecks (rows_of s.now) (reactionsAt p.now s.now) (lifecyclesAt p.now s.now) table start len) result }
+    ensures { Decides (lifecycles_checks (rows_of s.now) (reactions_at p.now s.now) (lifecycles_at p.now s.now) table start len) result }
 {
     if len == 0 {
         return Outcome::Passed;
@@ -353,7 +353,7 @@ pub fn validate_lifecycle(p: &[u8], s: &TableStarts, table: u8, start: u32, len:
 // Whether they pass, for callers that have many ranges, likewise.
 pub fn lifecycles_pass(p: &[u8], s: &TableStarts, table: u8, start: u32, len: u32) -> bool
     requires { Whole p.now × (Rising s.now × (Within p.now s.now × (table < 25))) }
-    ensures { result ≡ isPassed (first (lifecyclesChecks (rows_of s.now) (reactionsAt p.now s.now) (lifecyclesAt p.now s.now) table start len)) }
+    ensures { result ≡ is_passed (first (lifecycles_checks (rows_of s.now) (reactions_at p.now s.now) (lifecycles_at p.now s.now) table start len)) }
 {
     if len == 0 {
         return true;

@@ -1,9 +1,9 @@
 // Table lengths, references, ranges and spans.
 ghost use Rattle.std.specs.Prelude.{◌≡◌, ◌&&◌, [], ◌∷◌, ◌+◌, ◌<◌, get_or, leb};
-ghost use Rattle.range.specs.Range.{checkedEnd};
+ghost use Rattle.range.specs.Range.{checked_end};
 ghost use Rattle.answers.specs.Checks.{Decides};
 ghost use Rattle.checks.specs.Image.{start_of, rows_of, Rising};
-ghost use Rattle.checks.specs.Refs.{lengthCheck, LookedUp, endWithin, spanChecks, rangeChecks};
+ghost use Rattle.checks.specs.Refs.{length_check, LookedUp, end_within, span_checks, range_checks};
 
 use crate::Found;
 use answers::{Outcome, Refusal};
@@ -61,7 +61,7 @@ pub fn row_of(s: &TableStarts, table: u8, index: u32) -> usize
 // Whether a table fits its key's domain.
 pub fn check_enclave_len(s: &TableStarts, table: u8) -> Outcome
     requires { Rising s.now × (table < 25) }
-    ensures { Decides (lengthCheck (rows_of s.now) table ∷ []) result }
+    ensures { Decides (length_check (rows_of s.now) table ∷ []) result }
 {
     if rows_of(s, table) as u64 <= 0x1_0000_0000 {
         return Outcome::Passed;
@@ -177,7 +177,7 @@ pub fn check_enclave_span(
     previous_end: u64,
 ) -> Outcome
     requires { Rising s.now × (target < 25) }
-    ensures { Decides (spanChecks (rows_of s.now) table index field target span.start span.len previous_end) result }
+    ensures { Decides (span_checks (rows_of s.now) table index field target span.start span.len previous_end) result }
 {
     let start = span.start;
     let len = span.len;
@@ -218,14 +218,14 @@ pub fn check_enclave_range(
     previous_end: u64,
 ) -> Outcome
     requires { Rising s.now × (target < 25) }
-    ensures { Decides (rangeChecks (rows_of s.now) table index field target range previous_end) result }
+    ensures { Decides (range_checks (rows_of s.now) table index field target range previous_end) result }
 {
     check_enclave_span(s, table, index, field, target, range.span(), previous_end)
 }
 
 // The tests of `check_enclave_range` for a table of so many rows, as an answer in a register.
 pub fn range_fits(range: SliceRange, previous_end: u64, rows: u32) -> bool
-    ensures { result ≡ (endWithin (checkedEnd range.start range.len) rows && leb previous_end range.start) }
+    ensures { result ≡ (end_within (checked_end range.start range.len) rows && leb previous_end range.start) }
 {
     let start = range.start as u64;
     let end = start + range.len as u64;

@@ -3,17 +3,17 @@ use Rattle.std.specs.Prelude.{ℕ, ◌+◌, cond, List, [], ◌∷◌, ◌++◌,
 use Rattle.answers.specs.Fields as field
 use Rattle.answers.specs.Checks.{Check, run}
 use Rattle.checks.specs.Image.{Image}
-use Rattle.checks.specs.Refs.{lengthCheck, refTo}
-use Rattle.checks.specs.Identities.{idCheck}
-use Rattle.row_checks.specs.Reactors.{reactorChecks}
-use Rattle.row_checks.specs.Actions.{actionChecks}
-use Rattle.row_checks.specs.Ports.{portChecks}
-use Rattle.row_checks.specs.Reactions.{reactionChecks}
-use Rattle.row_checks.specs.Modes.{modeChecks}
-use Rattle.scope_checks.specs.Scopes.{scopeChecks}
-use Rattle.scope_checks.specs.Links.{cycleChecks}
-use Rattle.list_checks.specs.ListTables.{indexChecks, startupChecks, actionTriggerChecks, portTriggerChecks, enabledModesChecks, scopeListChecks, levelEntryChecks, lifecycleEntryChecks, shutdownReactionChecks, shutdownActionChecks}
-use Rattle.list_checks.specs.Routes.{routeChecks, bindingIdChecks}
+use Rattle.checks.specs.Refs.{length_check, ref_to}
+use Rattle.checks.specs.Identities.{id_check}
+use Rattle.row_checks.specs.Reactors.{reactor_checks}
+use Rattle.row_checks.specs.Actions.{action_checks}
+use Rattle.row_checks.specs.Ports.{port_checks}
+use Rattle.row_checks.specs.Reactions.{reaction_checks}
+use Rattle.row_checks.specs.Modes.{mode_checks}
+use Rattle.scope_checks.specs.Scopes.{scope_checks}
+use Rattle.scope_checks.specs.Links.{cycle_checks}
+use Rattle.list_checks.specs.ListTables.{index_checks, startup_checks, action_trigger_checks, port_trigger_checks, enabled_modes_checks, scope_list_checks, level_entry_checks, lifecycle_entry_checks, shutdown_reaction_checks, shutdown_action_checks}
+use Rattle.list_checks.specs.Routes.{route_checks, binding_id_checks}
 
 -- a pass: how many items it has, and each item's checks
 pub record Pass : Type 0 where
@@ -28,69 +28,69 @@ abbrev pub times : ℕ → (Image → ℕ → List Check) → Pass
 times n f = record { items = λ rows. n; checks = f }
 
 -- the tables whose length is checked: 2 to 7, 23 and 24
-abbrev pub lengthTable : ℕ → ℕ
-lengthTable i = cond (ltb i 6) (i + 2) (cond (eqb i 6) 23 24)
+abbrev pub length_table : ℕ → ℕ
+length_table i = cond (ltb i 6) (i + 2) (cond (eqb i 6) 23 24)
 
-abbrev pub lengthChecks : Image → ℕ → List Check
-lengthChecks m i = lengthCheck m.rows (lengthTable i) ∷ []
+abbrev pub length_checks : Image → ℕ → List Check
+length_checks m i = length_check m.rows (length_table i) ∷ []
 
-abbrev pub rootChecks : Image → ℕ → List Check
-rootChecks m i = refTo m.rows 1 0 field.rootReactor 2 0 ∷ []
+abbrev pub root_checks : Image → ℕ → List Check
+root_checks m i = ref_to m.rows 1 0 field.root_reactor 2 0 ∷ []
 
-abbrev pub enclaveIdChecks : Image → ℕ → List Check
-enclaveIdChecks m i = idCheck m.text field.kindEnclave 0 m.enclaveId ∷ []
+abbrev pub enclave_id_checks : Image → ℕ → List Check
+enclave_id_checks m i = id_check m.text field.kind_enclave 0 m.enclave_id ∷ []
 
 -- table lengths, root reactor, identity; the rows
-unfoldable pub rowPasses : List Pass
-rowPasses =
-    times 8 lengthChecks
-    ∷ times 1 rootChecks
-    ∷ times 1 enclaveIdChecks
-    ∷ over 2 reactorChecks
-    ∷ over 3 actionChecks
-    ∷ over 4 portChecks
-    ∷ over 5 reactionChecks
-    ∷ over 6 modeChecks
+unfoldable pub row_passes : List Pass
+row_passes =
+    times 8 length_checks
+    ∷ times 1 root_checks
+    ∷ times 1 enclave_id_checks
+    ∷ over 2 reactor_checks
+    ∷ over 3 action_checks
+    ∷ over 4 port_checks
+    ∷ over 5 reaction_checks
+    ∷ over 6 mode_checks
     ∷ []
 
 -- lists, routes and bindings
-unfoldable pub listPasses : List Pass
-listPasses =
-    over 3 actionTriggerChecks
-    ∷ over 4 portTriggerChecks
-    ∷ over 9 (indexChecks 9 field.port 4)
-    ∷ over 10 (indexChecks 10 field.port 4)
-    ∷ over 11 (indexChecks 11 field.action 3)
-    ∷ over 12 (indexChecks 12 field.mode 6)
-    ∷ over 5 enabledModesChecks
-    ∷ over 13 (indexChecks 13 field.scope 7)
-    ∷ over 14 (indexChecks 14 field.action 3)
-    ∷ over 15 (startupChecks 15)
-    ∷ over 7 scopeListChecks
-    ∷ over 8 (levelEntryChecks 8)
-    ∷ over 16 (levelEntryChecks 16)
-    ∷ over 17 (lifecycleEntryChecks 17)
-    ∷ over 18 (lifecycleEntryChecks 18)
-    ∷ over 19 (startupChecks 19)
-    ∷ over 20 (startupChecks 20)
-    ∷ over 21 shutdownReactionChecks
-    ∷ over 22 shutdownActionChecks
-    ∷ over 23 routeChecks
-    ∷ over 24 bindingIdChecks
+unfoldable pub list_passes : List Pass
+list_passes =
+    over 3 action_trigger_checks
+    ∷ over 4 port_trigger_checks
+    ∷ over 9 (index_checks 9 field.port 4)
+    ∷ over 10 (index_checks 10 field.port 4)
+    ∷ over 11 (index_checks 11 field.action 3)
+    ∷ over 12 (index_checks 12 field.mode 6)
+    ∷ over 5 enabled_modes_checks
+    ∷ over 13 (index_checks 13 field.scope 7)
+    ∷ over 14 (index_checks 14 field.action 3)
+    ∷ over 15 (startup_checks 15)
+    ∷ over 7 scope_list_checks
+    ∷ over 8 (level_entry_checks 8)
+    ∷ over 16 (level_entry_checks 16)
+    ∷ over 17 (lifecycle_entry_checks 17)
+    ∷ over 18 (lifecycle_entry_checks 18)
+    ∷ over 19 (startup_checks 19)
+    ∷ over 20 (startup_checks 20)
+    ∷ over 21 shutdown_reaction_checks
+    ∷ over 22 shutdown_action_checks
+    ∷ over 23 route_checks
+    ∷ over 24 binding_id_checks
     ∷ []
 
 -- the whole order: the rows of scopes and then parent cycles stand between the two lists
 unfoldable pub passes : List Pass
-passes = rowPasses ++ (over 7 scopeChecks ∷ over 7 cycleChecks ∷ listPasses)
+passes = row_passes ++ (over 7 scope_checks ∷ over 7 cycle_checks ∷ list_passes)
 
 -- a pass's checks, item by item
-unfoldable pub passChecks : Image → Pass → List Check
-passChecks m f = run (f.checks m) 0 (f.items m.rows)
+unfoldable pub pass_checks : Image → Pass → List Check
+pass_checks m f = run (f.checks m) 0 (f.items m.rows)
 
 -- the checks of passes, one after the other
-unfoldable pub checksOf : Image → List Pass → List Check
-checksOf m [] = []
-checksOf m (f ∷ fs) = passChecks m f ++ checksOf m fs
+unfoldable pub checks_of : Image → List Pass → List Check
+checks_of m [] = []
+checks_of m (f ∷ fs) = pass_checks m f ++ checks_of m fs
 
-unfoldable pub enclaveChecks : Image → List Check
-enclaveChecks m = checksOf m passes
+unfoldable pub enclave_checks : Image → List Check
+enclave_checks m = checks_of m passes

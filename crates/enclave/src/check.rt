@@ -1,7 +1,7 @@
 // The check of an enclave: packing, then the passes, with the links of its scopes.
 ghost use Rattle.std.specs.Prelude.{◌≡◌};
 ghost use Rattle.checks.specs.Image.{image, Rising, Within};
-ghost use Rattle.enclave.specs.Answer.{outcomeAnswer, parentsOutcome, answerNumbers, imageResult, enclaveAnswer};
+ghost use Rattle.enclave.specs.Answer.{outcome_answer, parents_outcome, answer_numbers, image_result, enclave_answer};
 ghost use Rattle.schema.specs.Rows.{Whole};
 
 use crate::EnclaveAnswer;
@@ -11,7 +11,7 @@ use scope_checks::links::Parents;
 
 // A refusal, passed up.
 pub fn refused(outcome: Outcome) -> EnclaveAnswer
-    ensures { result ≡ outcomeAnswer outcome }
+    ensures { result ≡ outcome_answer outcome }
 {
     match outcome {
         Outcome::Passed => EnclaveAnswer::Accepted { links: 0 },
@@ -21,7 +21,7 @@ pub fn refused(outcome: Outcome) -> EnclaveAnswer
 
 // A cycle of parents, passed up.
 fn cycle(parents: Parents) -> EnclaveAnswer
-    ensures { result ≡ parentsOutcome parents }
+    ensures { result ≡ parents_outcome parents }
 {
     match parents {
         Parents::Links(links) => EnclaveAnswer::Accepted { links },
@@ -38,7 +38,7 @@ pub fn check_image<'a>(
     n: usize,
 ) -> EnclaveAnswer
     requires { Whole p.now × (Rising s.now × Within p.now s.now) }
-    ensures { result ≡ imageResult (image p.now batch.now house.now s.now n) }
+    ensures { result ≡ image_result (image p.now batch.now house.now s.now n) }
 {
     let rows = crate::passes::check_rows(p, batch, house, s, n);
     let Outcome::Passed = rows else {
@@ -61,7 +61,7 @@ pub fn check_image<'a>(
 
 // The answer of `EnclaveImageView::new` for an enclave pack and its two texts.
 pub fn check_enclave<'a>(pack: &'a [u8], batch: &'a [u8], house: &'a [u8]) -> EnclaveAnswer
-    ensures { answerNumbers result ≡ enclaveAnswer pack.now batch.now house.now }
+    ensures { answer_numbers result ≡ enclave_answer pack.now batch.now house.now }
 {
     let mut s = [0u32; 26];
     let packed = packing::rules::check_enclave_packing(pack, batch, house, &mut s);

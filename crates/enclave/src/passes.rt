@@ -2,7 +2,7 @@
 ghost use Rattle.std.specs.Prelude.{◌≡◌, [], ◌<◌, take, drop};
 ghost use Rattle.answers.specs.Checks.{run, Decides};
 ghost use Rattle.checks.specs.Image.{image, Rising, Within};
-ghost use Rattle.enclave.specs.Passes.{lengthTable, lengthChecks, rootChecks, enclaveIdChecks, rowPasses, listPasses, checksOf};
+ghost use Rattle.enclave.specs.Passes.{length_table, length_checks, root_checks, enclave_id_checks, row_passes, list_passes, checks_of};
 ghost use Rattle.schema.specs.Rows.{Whole};
 
 use answers::{Outcome, field, kind};
@@ -18,7 +18,7 @@ use schema::{TableStarts, parts};
 
 // The tables whose length is checked: 2 to 7, 23 and 24.
 fn length_table(i: u32) -> u8
-    ensures { (result ≡ lengthTable i) × (result < 25) }
+    ensures { (result ≡ length_table i) × (result < 25) }
 {
     if i < 6 {
         return (i + 2) as u8;
@@ -31,14 +31,14 @@ fn length_table(i: u32) -> u8
 
 fn check_length(s: &TableStarts, i: u32) -> Outcome
     requires { Rising s.now }
-    ensures { Decides (lengthChecks (image [] [] [] s.now 0) i) result }
+    ensures { Decides (length_checks (image [] [] [] s.now 0) i) result }
 {
     refs::check_enclave_len(s, length_table(i))
 }
 
 fn check_root(s: &TableStarts) -> Outcome
     requires { Rising s.now }
-    ensures { Decides (rootChecks (image [] [] [] s.now 0) 0) result }
+    ensures { Decides (root_checks (image [] [] [] s.now 0) 0) result }
 {
     bindings::check_reactor(
         s,
@@ -51,7 +51,7 @@ fn check_root(s: &TableStarts) -> Outcome
 
 fn check_enclave_id<'a>(p: &'a [u8], batch: &'a [u8], house: &'a [u8], n: usize) -> Outcome
     requires { Whole p.now }
-    ensures { Decides (enclaveIdChecks (image p.now batch.now house.now [] n) 0) result }
+    ensures { Decides (enclave_id_checks (image p.now batch.now house.now [] n) 0) result }
 {
     let id = parts::enclave_id_at(p, n);
     if identity::scan::quick_valid_id(identity::place::identity_text(batch, house, id)) {
@@ -62,7 +62,7 @@ fn check_enclave_id<'a>(p: &'a [u8], batch: &'a [u8], house: &'a [u8], n: usize)
 
 fn check_lengths(s: &TableStarts) -> Outcome
     requires { Rising s.now }
-    ensures { Decides (run (lengthChecks (image [] [] [] s.now 0)) 0 8) result }
+    ensures { Decides (run (length_checks (image [] [] [] s.now 0)) 0 8) result }
 {
     let mut i = 0;
     while i < 8 {
@@ -84,7 +84,7 @@ fn check_head<'a>(
     n: usize,
 ) -> Outcome
     requires { Whole p.now × (Rising s.now × Within p.now s.now) }
-    ensures { Decides (checksOf (image p.now batch.now house.now s.now n) (take 3 rowPasses)) result }
+    ensures { Decides (checks_of (image p.now batch.now house.now s.now n) (take 3 row_passes)) result }
 {
     let lengths = check_lengths(s);
     let Outcome::Passed = lengths else {
@@ -106,7 +106,7 @@ fn check_tables<'a>(
     n: usize,
 ) -> Outcome
     requires { Whole p.now × (Rising s.now × Within p.now s.now) }
-    ensures { Decides (checksOf (image p.now batch.now house.now s.now n) (drop 3 rowPasses)) result }
+    ensures { Decides (checks_of (image p.now batch.now house.now s.now n) (drop 3 row_passes)) result }
 {
     let reactors = reactors::check_reactors(p, s, n);
     let Outcome::Passed = reactors else {
@@ -136,7 +136,7 @@ pub fn check_rows<'a>(
     n: usize,
 ) -> Outcome
     requires { Whole p.now × (Rising s.now × Within p.now s.now) }
-    ensures { Decides (checksOf (image p.now batch.now house.now s.now n) rowPasses) result }
+    ensures { Decides (checks_of (image p.now batch.now house.now s.now n) row_passes) result }
 {
     let head = check_head(p, batch, house, s, n);
     let Outcome::Passed = head else {
@@ -154,7 +154,7 @@ fn check_reaction_lists<'a>(
     n: usize,
 ) -> Outcome
     requires { Whole p.now × (Rising s.now × Within p.now s.now) }
-    ensures { Decides (checksOf (image p.now batch.now house.now s.now n) (take 6 listPasses)) result }
+    ensures { Decides (checks_of (image p.now batch.now house.now s.now n) (take 6 list_passes)) result }
 {
     let actions = level_lists::check_triggers_of_actions(p, s);
     let Outcome::Passed = actions else {
@@ -188,7 +188,7 @@ fn check_scope_lists<'a>(
     n: usize,
 ) -> Outcome
     requires { Whole p.now × (Rising s.now × Within p.now s.now) }
-    ensures { Decides (checksOf (image p.now batch.now house.now s.now n) (take 5 (drop 6 listPasses))) result }
+    ensures { Decides (checks_of (image p.now batch.now house.now s.now n) (take 5 (drop 6 list_passes))) result }
 {
     let enabled = list_tables::check_modes_of_reactions(p, s);
     let Outcome::Passed = enabled else {
@@ -218,7 +218,7 @@ fn check_entries<'a>(
     n: usize,
 ) -> Outcome
     requires { Whole p.now × (Rising s.now × Within p.now s.now) }
-    ensures { Decides (checksOf (image p.now batch.now house.now s.now n) (take 6 (drop 11 listPasses))) result }
+    ensures { Decides (checks_of (image p.now batch.now house.now s.now n) (take 6 (drop 11 list_passes))) result }
 {
     if !level_lists::level_entries_pass(p, s, ReactionTrigger::TABLE) {
         return level_lists::check_level_entries(p, s, ReactionTrigger::TABLE);
@@ -248,7 +248,7 @@ fn check_tail<'a>(
     n: usize,
 ) -> Outcome
     requires { Whole p.now × (Rising s.now × Within p.now s.now) }
-    ensures { Decides (checksOf (image p.now batch.now house.now s.now n) (drop 17 listPasses)) result }
+    ensures { Decides (checks_of (image p.now batch.now house.now s.now n) (drop 17 list_passes)) result }
 {
     let reactions = level_lists::check_shutdown_reactions(p, s);
     let Outcome::Passed = reactions else {
@@ -274,7 +274,7 @@ pub fn check_lists<'a>(
     n: usize,
 ) -> Outcome
     requires { Whole p.now × (Rising s.now × Within p.now s.now) }
-    ensures { Decides (checksOf (image p.now batch.now house.now s.now n) listPasses) result }
+    ensures { Decides (checks_of (image p.now batch.now house.now s.now n) list_passes) result }
 {
     let reactions = check_reaction_lists(p, batch, house, s, n);
     let Outcome::Passed = reactions else {

@@ -4,30 +4,30 @@ use mathlib.Core.Bool.{Bool, true, false}
 use mathlib.Core.Path.{◌≡◌, refl, ◌∙◌}
 use native.Mathlib.Numerals.{add-one}
 use native.Mathlib.Omega.{arith}
-use Rattle.federate.specs.Records.{countBelow}
+use Rattle.federate.specs.Records.{count_below}
 
 pub record Counted (f : ℕ → Bool) (n found : ℕ) : Type 0 where
-  pub is : found ≡ countBelow f n
+  pub is : found ≡ count_below f n
   pub few : found ≤ n
 
 pub counted_start : (f : ℕ → Bool) → Counted f 0 0
-unfolding countBelow
+unfolding count_below
 counted_start f = record { is = refl; few = omega arith }
 
 module _ {f : ℕ → Bool} {n found : ℕ} (c : Counted f n found) where
   pub counted-one : true ≡ f n → Counted f (n + 1) (found + 1)
-  unfolding countBelow
+  unfolding count_below
   counted-one e =
       let l = c.few in
-      let i : found + 1 ≡ countBelow f n + 1 = (let j = c.is in omega arith) in
+      let i : found + 1 ≡ count_below f n + 1 = (let j = c.is in omega arith) in
       record { is = i ∙ rw (add-one n, ← e); few = omega arith }
 
   pub counted_none : false ≡ f n → Counted f (n + 1) found
-  unfolding countBelow
+  unfolding count_below
   counted_none e =
       let l = c.few in
-      let z : found ≡ countBelow f n + 0 = (let i = c.is in omega arith) in
+      let z : found ≡ count_below f n + 0 = (let i = c.is in omega arith) in
       record { is = rw (add-one n, ← e) z; few = omega arith }
 
-pub counted-all : {f : ℕ → Bool} {n m found : ℕ} → Counted f n found → n ≤ m → m ≤ n → found ≡ countBelow f m
+pub counted-all : {f : ℕ → Bool} {n m found : ℕ} → Counted f n found → n ≤ m → m ≤ n → found ≡ count_below f m
 counted-all {n = n} {m = m} c h k = let e : m ≡ n = omega arith in rw e c.is

@@ -8,26 +8,26 @@ use native.Mathlib.Numerals.{add-one}
 use native.Mathlib.Omega.{arith}
 use lib.ListN.{get_or}
 use borrow.Author.Tests.{eq-eqb, ne_eqb}
-use Rattle.identity.specs.Text.{identityText}
+use Rattle.identity.specs.Text.{identity_text}
 use Rattle.identity.specs.declared.IdentityPlace.{IdentityPlace}
-use Rattle.checks.specs.Identities.{idOrderChecks}
+use Rattle.checks.specs.Identities.{id_order_checks}
 use Rattle.answers.specs.declared.Refusal.{Refusal}
 use Rattle.answers.specs.declared.Outcome.{Outcome}
 use Rattle.answers.specs.declared.Outcome.TheVariants.{Passed, Refused}
 use Rattle.answers.specs.Checks.{first, run, Decides}
 use Rattle.answers.proofs.Laws.{none, first_past, first_stops}
 use Rattle.answers.proofs.Loops.{Remaining, remaining-start, remaining-step, remaining-stop, remaining-none}
-use Rattle.packing.specs.Starts.{recordsOf, reaches, firstReaching, tableStarts}
+use Rattle.packing.specs.Starts.{records_of, reaches, first_reaching, table_starts}
 use Rattle.packing.proofs.TableStarts.{starts-at, records-few}
 use Rattle.checks.specs.Image.{Image}
 use Rattle.scope_checks.specs.Links.{links, parents}
 use Rattle.scope_checks.proofs.LinksLaws.{below-within}
 use Rattle.enclave.specs.declared.EnclaveAnswer.{EnclaveAnswer}
 use Rattle.enclave.specs.declared.EnclaveAnswer.TheVariants as answer
-use Rattle.enclave.specs.Passes.{enclaveChecks}
-use Rattle.enclave.specs.Answer.{answer_of, imageResult}
-use Rattle.federate.specs.Records.{is_of, enclavesBefore, enclaveBefore, enclavePack}
-use Rattle.federate.specs.Enclaves.{id_at, indexFrom, imageAt, orderChecks, recordChecks, linksBefore}
+use Rattle.enclave.specs.Passes.{enclave_checks}
+use Rattle.enclave.specs.Answer.{answer_of, image_result}
+use Rattle.federate.specs.Records.{is_of, enclaves_before, enclave_before, enclave_pack}
+use Rattle.federate.specs.Enclaves.{id_at, index_from, image_at, order_checks, record_checks, links_before}
 use Rattle.federate.proofs.Counts.{Counted, counted_start, counted-one, counted_none}
 
 -- what an answer tells of the checks and the count it comes from
@@ -41,40 +41,40 @@ refused-so (Refused x) n e t = let z = sym t ∙ e in cc
 
 module _ (p batch house : List ℕ) (start n : ℕ) (h : is_of p 1 n ≡ true) where
   abbrev m : Image
-  m = imageAt p batch house n
+  m = image_at p batch house n
 
   -- the enclave refused
-  pub own-refused : {a : EnclaveAnswer} {r : Refusal} → a ≡ imageResult m → a ≡ answer.Refused r → a ≡ answer_of (first (recordChecks p batch house start n)) (links m)
-  unfolding recordChecks imageResult
+  pub own-refused : {a : EnclaveAnswer} {r : Refusal} → a ≡ image_result m → a ≡ answer.Refused r → a ≡ answer_of (first (record_checks p batch house start n)) (links m)
+  unfolding record_checks image_result
   own-refused e t =
-      let f = refused-so (first (enclaveChecks m)) (links m) e t in
-      t ∙ rw (h, first_stops (enclaveChecks m) (orderChecks p batch house start n) f)
+      let f = refused-so (first (enclave_checks m)) (links m) e t in
+      t ∙ rw (h, first_stops (enclave_checks m) (order_checks p batch house start n) f)
 
-  module _ {a : EnclaveAnswer} {k : ℕ} (e : a ≡ imageResult m) (t : a ≡ answer.Accepted k) where
-    own-passed : (first (enclaveChecks m) ≡ Passed) × (k ≡ links m)
-    unfolding imageResult
-    own-passed = accepted-so (first (enclaveChecks m)) (links m) k e t
+  module _ {a : EnclaveAnswer} {k : ℕ} (e : a ≡ image_result m) (t : a ≡ answer.Accepted k) where
+    own-passed : (first (enclave_checks m) ≡ Passed) × (k ≡ links m)
+    unfolding image_result
+    own-passed = accepted-so (first (enclave_checks m)) (links m) k e t
 
     -- its identity refused
-    pub order-refused : {o : Outcome} {r : Refusal} → Decides (orderChecks p batch house start n) o → o ≡ Refused r → answer.Refused r ≡ answer_of (first (recordChecks p batch house start n)) (links m)
-    unfolding recordChecks
-    order-refused d u = rw (h, first_past (enclaveChecks m) (orderChecks p batch house start n) own-passed.0, ← d.is, u)
+    pub order-refused : {o : Outcome} {r : Refusal} → Decides (order_checks p batch house start n) o → o ≡ Refused r → answer.Refused r ≡ answer_of (first (record_checks p batch house start n)) (links m)
+    unfolding record_checks
+    order-refused d u = rw (h, first_past (enclave_checks m) (order_checks p batch house start n) own-passed.0, ← d.is, u)
 
     -- both passed
-    pub record-accepted : {o : Outcome} → Decides (orderChecks p batch house start n) o → o ≡ Passed → a ≡ answer_of (first (recordChecks p batch house start n)) (links m)
-    unfolding recordChecks
-    record-accepted d u = t ∙ rw (h, first_past (enclaveChecks m) (orderChecks p batch house start n) own-passed.0, ← d.is, u, own-passed.1)
+    pub record-accepted : {o : Outcome} → Decides (order_checks p batch house start n) o → o ≡ Passed → a ≡ answer_of (first (record_checks p batch house start n)) (links m)
+    unfolding record_checks
+    record-accepted d u = t ∙ rw (h, first_past (enclave_checks m) (order_checks p batch house start n) own-passed.0, ← d.is, u, own-passed.1)
 
 -- its identity against the one before: nothing for the first
-pub order-first : (p batch house : List ℕ) (start n : ℕ) {place : ℕ} → place ≡ enclavesBefore p n → place ≡ 0 → Decides (orderChecks p batch house start n) Passed
+pub order-first : (p batch house : List ℕ) (start n : ℕ) {place : ℕ} → place ≡ enclaves_before p n → place ≡ 0 → Decides (order_checks p batch house start n) Passed
 order-first p batch house start n e z = rw (eq-eqb _ _ (sym e ∙ z)) none
 
 pub order-after :
     (p batch house : List ℕ) (start n : ℕ) {place before index : ℕ} {x y : IdentityPlace} {o : Outcome}
-    → place ≡ enclavesBefore p n → before ≡ enclaveBefore p n → (place ≡ 0 → ⊥)
-    → x ≡ id_at p n → y ≡ id_at p before → index ≡ indexFrom start place
-    → Decides (idOrderChecks (identityText batch house) 4 index x y) o
-    → Decides (orderChecks p batch house start n) o
+    → place ≡ enclaves_before p n → before ≡ enclave_before p n → (place ≡ 0 → ⊥)
+    → x ≡ id_at p n → y ≡ id_at p before → index ≡ index_from start place
+    → Decides (id_order_checks (identity_text batch house) 4 index x y) o
+    → Decides (order_checks p batch house start n) o
 order-after p batch house start n {place} e f z g h i d =
     let b = h ∙ ap (λ (k : ℕ). id_at p k) f in
     rw (← e, ne_eqb place 0 z) (rw (i, g, b) at d)
@@ -84,18 +84,18 @@ either : (b : Bool) (m n k : ℕ) → m ≤ n + 1 + k → cond b n m ≤ n + suc
 either true m n k h = omega arith
 either false m n k h = omega arith
 
-first-near : (p : List ℕ) (t f a : ℕ) → firstReaching p t a f ≤ a + f
-unfolding firstReaching
+first-near : (p : List ℕ) (t f a : ℕ) → first_reaching p t a f ≤ a + f
+unfolding first_reaching
 first-near p t zero a = omega arith
 first-near p t (suc f) a = either (reaches p t a) _ a f (first-near p t f (a + 1))
 
 -- the links of an enclave fit 33 bits
-links-few : (p batch house : List ℕ) (n : ℕ) → links (imageAt p batch house n) ≤ 65537 * 65537
+links-few : (p batch house : List ℕ) (n : ℕ) → links (image_at p batch house n) ≤ 65537 * 65537
 links-few p batch house n =
-    let m = imageAt p batch house n in
-    let own = enclavePack p n in
+    let m = image_at p batch house n in
+    let own = enclave_pack p n in
     let few = records-few own in
-    let a : get_or (tableStarts own 1) 8 0 ≤ 1 + recordsOf own = rw (starts-at own 1 8 (omega arith)) (first-near own 8 (recordsOf own) 1) in
+    let a : get_or (table_starts own 1) 8 0 ≤ 1 + records_of own = rw (starts-at own 1 8 (omega arith)) (first-near own 8 (records_of own) 1) in
     let rows : m.rows 7 ≤ 65537 = omega arith in
     let b = below-within (parents m) (m.rows 7) (m.rows 7) in
     let c = mul-le-mul {n₂ = 65537} {m₂ = 65537} rows rows in
@@ -103,30 +103,30 @@ links-few p batch house n =
 
 -- before record n: the checks of the records before it passed, and the loop's numbers are those of the definition
 pub record Before (p batch house : List ℕ) (start n place before sum : ℕ) : Type 0 where
-  pub left : Remaining (recordChecks p batch house start) n (recordsOf p)
+  pub left : Remaining (record_checks p batch house start) n (records_of p)
   pub places : Counted (is_of p 1) n place
-  pub befores : before ≡ enclaveBefore p n
-  pub sums : sum ≡ linksBefore p batch house n
+  pub befores : before ≡ enclave_before p n
+  pub sums : sum ≡ links_before p batch house n
   pub few : sum ≤ n * (65537 * 65537)
 
 pub before-start : (p batch house : List ℕ) (start : ℕ) → Before p batch house start 0 0 0 0
-unfolding enclaveBefore linksBefore
+unfolding enclave_before links_before
 before-start p batch house start =
     record {
-      left = remaining-start _ (recordsOf p);
+      left = remaining-start _ (records_of p);
       places = counted_start _;
       befores = refl;
       sums = refl;
       few = omega arith;
     }
 
-module _ {p batch house : List ℕ} {start n place before sum : ℕ} (b : Before p batch house start n place before sum) (l : n < recordsOf p) where
+module _ {p batch house : List ℕ} {start n place before sum : ℕ} (b : Before p batch house start n place before sum) (l : n < records_of p) where
   -- a record that is no enclave's
   pub before-other : false ≡ is_of p 1 n → Before p batch house start (n + 1) place before sum
-  unfolding recordChecks enclaveBefore linksBefore first
+  unfolding record_checks enclave_before links_before first
   before-other e =
       let few = b.few in
-      let s : sum ≡ linksBefore p batch house n + 0 = (let i = b.sums in omega arith) in
+      let s : sum ≡ links_before p batch house n + 0 = (let i = b.sums in omega arith) in
       record {
         left = remaining-step b.left l (record { is = rw (← e) }) refl;
         places = counted_none b.places e;
@@ -135,16 +135,16 @@ module _ {p batch house : List ℕ} {start n place before sum : ℕ} (b : Before
         few = omega arith;
       }
 
-  module _ (e : is_of p 1 n ≡ true) {a : EnclaveAnswer} (r : a ≡ answer_of (first (recordChecks p batch house start n)) (links (imageAt p batch house n))) where
-    pub before-refused : {x : Refusal} → a ≡ answer.Refused x → a ≡ answer_of (first (run (recordChecks p batch house start) 0 (recordsOf p))) (linksBefore p batch house (recordsOf p))
+  module _ (e : is_of p 1 n ≡ true) {a : EnclaveAnswer} (r : a ≡ answer_of (first (record_checks p batch house start n)) (links (image_at p batch house n))) where
+    pub before-refused : {x : Refusal} → a ≡ answer.Refused x → a ≡ answer_of (first (run (record_checks p batch house start) 0 (records_of p))) (links_before p batch house (records_of p))
     before-refused t =
-        let f = refused-so (first (recordChecks p batch house start n)) _ r t in
+        let f = refused-so (first (record_checks p batch house start n)) _ r t in
         let d = remaining-stop b.left l (record { is = refl }) f in
         t ∙ rw (← d.is, f)
 
     module _ {k : ℕ} (t : a ≡ answer.Accepted k) where
-      found : (first (recordChecks p batch house start n) ≡ Passed) × (k ≡ links (imageAt p batch house n))
-      found = accepted-so (first (recordChecks p batch house start n)) _ k r t
+      found : (first (record_checks p batch house start n) ≡ Passed) × (k ≡ links (image_at p batch house n))
+      found = accepted-so (first (record_checks p batch house start n)) _ k r t
 
       pub before-fits : sum + k < 2 ^ 64
       before-fits =
@@ -155,7 +155,7 @@ module _ {p batch house : List ℕ} {start n place before sum : ℕ} (b : Before
           omega arith
 
       pub before_more : Before p batch house start (n + 1) (place + 1) n (sum + k)
-      unfolding enclaveBefore linksBefore
+      unfolding enclave_before links_before
       before_more =
           let few = b.few in
           let x = links-few p batch house n in
@@ -168,8 +168,8 @@ module _ {p batch house : List ℕ} {start n place before sum : ℕ} (b : Before
             few = omega arith;
           }
 
-pub before-all : {p batch house : List ℕ} {start n place before sum : ℕ} → Before p batch house start n place before sum → recordsOf p ≤ n → answer.Accepted sum ≡ answer_of (first (run (recordChecks p batch house start) 0 (recordsOf p))) (linksBefore p batch house (recordsOf p))
+pub before-all : {p batch house : List ℕ} {start n place before sum : ℕ} → Before p batch house start n place before sum → records_of p ≤ n → answer.Accepted sum ≡ answer_of (first (run (record_checks p batch house start) 0 (records_of p))) (links_before p batch house (records_of p))
 before-all {p} {n = n} b h =
     let d = remaining-none b.left h in
-    let k : recordsOf p ≡ n = (let w = b.left.within in omega arith) in
+    let k : records_of p ≡ n = (let w = b.left.within in omega arith) in
     rw (← d.is) (ap answer.Accepted (b.sums ∙ rw k))

@@ -16,12 +16,12 @@ use Rattle.answers.specs.declared.Outcome.{Outcome}
 use Rattle.answers.specs.declared.Outcome.TheVariants.{Passed, Refused}
 use Rattle.answers.specs.Checks.{Check, first, run, Decides}
 use Rattle.answers.proofs.Loops.{Remaining, remaining-start, remaining-step, remaining-stop, remaining-none}
-use Rattle.schema.specs.Rows.{routeAt}
-use Rattle.packing.specs.Starts.{recordsOf}
-use Rattle.checks.specs.Identities.{isEqual}
-use Rattle.federate.specs.Records.{is_of, countBelow}
-use Rattle.federate.specs.RoutePairs.{routeRecordChecks}
-use Rattle.federate.specs.RouteOrder.{boundaryAt, before, Ordered, Listed, areHalves, Fits, Tells, Scanned, FirstFault}
+use Rattle.schema.specs.Rows.{route_at}
+use Rattle.packing.specs.Starts.{records_of}
+use Rattle.checks.specs.Identities.{is_equal}
+use Rattle.federate.specs.Records.{is_of, count_below}
+use Rattle.federate.specs.RoutePairs.{route_record_checks}
+use Rattle.federate.specs.RouteOrder.{boundary_at, before, Ordered, Listed, are_halves, Fits, Tells, Scanned, FirstFault}
 use Rattle.federate.proofs.Tests.{cases, no_both}
 use Rattle.federate.proofs.OrderLaws.{before-between, before-number}
 use Rattle.federate.proofs.SortLaws.{below_or, same_or}
@@ -29,13 +29,13 @@ use Rattle.federate.proofs.RowLaws.{below-some, placed, row_is, row-once}
 use Rattle.federate.proofs.PairLaws.{Beside, Paired, halves_are, are-halves, three_ways, route-passes, ways-differ, pairs-up}
 
 -- what a comparison tells
-apart-so : {x y : List ℕ} {r : Bool} → r ≡ not (isEqual (compared x y)) → r ≡ true → x ≡ y → ⊥
+apart-so : {x y : List ℕ} {r : Bool} → r ≡ not (is_equal (compared x y)) → r ≡ true → x ≡ y → ⊥
 apart-so {x} {y} e t q = no_both _ (sym e ∙ t) (rw (q, compared_same y))
 
-same-so : {x y : List ℕ} {r : Bool} → r ≡ not (isEqual (compared x y)) → r ≡ false → x ≡ y
+same-so : {x y : List ℕ} {r : Bool} → r ≡ not (is_equal (compared x y)) → r ≡ false → x ≡ y
 same-so {x} {y} e t = compared-equal x y (equal (compared x y) (sym e ∙ t))
   where
-    equal : (o : ByteOrder) → not (isEqual o) ≡ false → o ≡ Equal
+    equal : (o : ByteOrder) → not (is_equal o) ≡ false → o ≡ Equal
     equal Less h = absurd (no_both true refl h)
     equal Equal h = refl
     equal Greater h = absurd (no_both true refl h)
@@ -51,11 +51,11 @@ module _ {text : IdentityPlace → List ℕ} {p rows : List ℕ} {k : ℕ} where
   pub fits_last : length rows ≤ k + 1 → Fits text p rows k
   fits_last h = record { next = λ l. absurd (omega arith); third = λ l. absurd (omega arith) }
 
-  module _ {r : Bool} (e : r ≡ not (isEqual (compared (boundaryAt text p (get_or rows k 0)) (boundaryAt text p (get_or rows (k + 1) 0))))) where
+  module _ {r : Bool} (e : r ≡ not (is_equal (compared (boundary_at text p (get_or rows k 0)) (boundary_at text p (get_or rows (k + 1) 0))))) where
     pub fits-apart : r ≡ true → Fits text p rows k
     fits-apart t = record { next = λ l q. absurd (apart-so e t q); third = λ l q. absurd (apart-so e t q) }
 
-    module _ (t : r ≡ false) (inside : k + 1 < length rows) {s : Bool} (f : s ≡ areHalves (routeAt p (get_or rows k 0)) (routeAt p (get_or rows (k + 1) 0))) where
+    module _ (t : r ≡ false) (inside : k + 1 < length rows) {s : Bool} (f : s ≡ are_halves (route_at p (get_or rows k 0)) (route_at p (get_or rows (k + 1) 0))) where
       pub fits_not : not s ≡ true → Fits text p rows k → ⊥
       fits_not u a = no_both _ (a.next inside (same-so e t)) (sym f ∙ not-true s u)
 
@@ -63,14 +63,14 @@ module _ {text : IdentityPlace → List ℕ} {p rows : List ℕ} {k : ℕ} where
         pub fits-pair : length rows ≤ k + 2 → Fits text p rows k
         fits-pair h = record { next = λ l q. sym f ∙ not-false s u; third = λ l. absurd (omega arith) }
 
-        pub fits-third : k + 2 < length rows → {v : Bool} → v ≡ not (isEqual (compared (boundaryAt text p (get_or rows k 0)) (boundaryAt text p (get_or rows (k + 2) 0)))) → Tells (Fits text p rows k) v
+        pub fits-third : k + 2 < length rows → {v : Bool} → v ≡ not (is_equal (compared (boundary_at text p (get_or rows k 0)) (boundary_at text p (get_or rows (k + 2) 0)))) → Tells (Fits text p rows k) v
         fits-third h g = record {
           yes = λ w. record { next = λ l q. sym f ∙ not-false s u; third = λ l q. apart-so g w };
           other = λ w a. a.third h (same-so e t) (same-so g w);
         }
 
 -- the scan, a place at a time
-pub scan-start : (text : IdentityPlace → List ℕ) (p rows : List ℕ) {least : ℕ} → least ≡ recordsOf p → Scanned text p rows 0 least
+pub scan-start : (text : IdentityPlace → List ℕ) (p rows : List ℕ) {least : ℕ} → least ≡ records_of p → Scanned text p rows 0 least
 scan-start text p rows e = record { within = omega arith; fits = λ j h. absurd (omega arith); named = λ h. absurd (omega arith) }
 
 module _ {text : IdentityPlace → List ℕ} {p rows : List ℕ} {k least : ℕ} (s : Scanned text p rows k least) where
@@ -97,9 +97,9 @@ module _ {text : IdentityPlace → List ℕ} {p rows : List ℕ} {k least : ℕ}
         named = λ g all. bad (all k (omega arith) refl);
       }
 
-module _ {text : IdentityPlace → List ℕ} {p rows : List ℕ} (o : Ordered (before (boundaryAt text p)) rows) (l : Listed p 23 rows) {least : ℕ} (s : Scanned text p rows (length rows) least) where
+module _ {text : IdentityPlace → List ℕ} {p rows : List ℕ} (o : Ordered (before (boundary_at text p)) rows) (l : Listed p 23 rows) {least : ℕ} (s : Scanned text p rows (length rows) least) where
   abbrev key : ℕ → List ℕ
-  key n = boundaryAt text p n
+  key n = boundary_at text p n
 
   abbrev at : ℕ → ℕ
   at k = get_or rows k 0
@@ -111,7 +111,7 @@ module _ {text : IdentityPlace → List ℕ} {p rows : List ℕ} (o : Ordered (b
       (λ (q : b ≡ c). rw q e)
       (λ ne. before-between key (at a) (at b) (at c) (o.at a b h (omega arith)) (o.at b c (omega arith) m) e)
 
-  near : (a b : ℕ) → a < b → b < length rows → key (at a) ≡ key (at b) → Fits text p rows a → areHalves (routeAt p (at a)) (routeAt p (at b)) ≡ true
+  near : (a b : ℕ) → a < b → b < length rows → key (at a) ≡ key (at b) → Fits text p rows a → are_halves (route_at p (at a)) (route_at p (at b)) ≡ true
   near a b h g e f =
       same_or b (a + 1)
       (λ (q : b ≡ a + 1). rw q (f.next (omega arith) (between a (a + 1) b (omega arith) (omega arith) g e)))
@@ -126,7 +126,7 @@ module _ {text : IdentityPlace → List ℕ} {p rows : List ℕ} (o : Ordered (b
         (λ (i : a ≡ q). let j = ap at i in omega arith)
         (λ ne. let i = before-number key (at a) (at q) (o.at a q (omega arith) g) (f ∙ ap key (sym e)) in omega arith))
 
-    twins : (q a b : ℕ) → q < length rows → at q ≡ n → a < b → b < length rows → key (at a) ≡ key n → key (at b) ≡ key n → areHalves (routeAt p (at a)) (routeAt p (at b)) ≡ true
+    twins : (q a b : ℕ) → q < length rows → at q ≡ n → a < b → b < length rows → key (at a) ≡ key n → key (at b) ≡ key n → are_halves (route_at p (at a)) (route_at p (at b)) ≡ true
     twins q a b g e h m ea eb =
         below_or q a
         (λ lt.
@@ -150,7 +150,7 @@ module _ {text : IdentityPlace → List ℕ} {p rows : List ℕ} (o : Ordered (b
         bad ((λ z. h.0 (sym z)), sym h.1, sym h.2))))))
 
   -- and where a row's record passes, it fits
-  module _ (k : ℕ) (h : k < length rows) (good : first (routeRecordChecks text p (at k)) ≡ Passed) where
+  module _ (k : ℕ) (h : k < length rows) (good : first (route_record_checks text p (at k)) ≡ Passed) where
     beside : (j : ℕ) → j < length rows → key (at k) ≡ key (at j) → Beside text p (at k) (at j)
     beside j g e = let r = row_is l j g in (r.1, r.0, sym e)
 
@@ -164,14 +164,14 @@ module _ {text : IdentityPlace → List ℕ} {p rows : List ℕ} (o : Ordered (b
               let own = beside k h refl in
               let two = beside (k + 1) (omega arith) e in
               let three = beside (k + 2) g f in
-              three_ways (routeAt p (at k)).direction (routeAt p (at (k + 1))).direction (routeAt p (at (k + 2))).direction
+              three_ways (route_at p (at k)).direction (route_at p (at (k + 1))).direction (route_at p (at (k + 2))).direction
               (differ (at k) (at (k + 1)) own two (row-once l k (k + 1) (omega arith) (omega arith)))
               (differ (at k) (at (k + 2)) own three (row-once l k (k + 2) (omega arith) g))
               (differ (at (k + 1)) (at (k + 2)) two three (row-once l (k + 1) (k + 2) (omega arith) g));
         }
 
-  pub scan-end : FirstFault (routeRecordChecks text p) least (recordsOf p)
-  unfolding routeRecordChecks first
+  pub scan-end : FirstFault (route_record_checks text p) least (records_of p)
+  unfolding route_record_checks first
   scan-end = record {
     within = s.within;
     passes = λ n h. cases (is_of p 23 n) (λ t. rw t (sym (route-passes text p n (let w = s.within in omega arith) t (paired n h t)).is)) (λ f. rw f);
@@ -194,11 +194,11 @@ module _ {f : ℕ → List Check} {i n : ℕ} (c : FirstFault f i n) where
   no-fault h = remaining-none (up_to i (omega arith)) h
 
 -- without a route there is none
-pub no-routes : (text : IdentityPlace → List ℕ) (p : List ℕ) {found : ℕ} → found ≡ countBelow (is_of p 23) (recordsOf p) → found ≡ 0 → Decides (run (routeRecordChecks text p) 0 (recordsOf p)) Passed
-unfolding routeRecordChecks first
+pub no-routes : (text : IdentityPlace → List ℕ) (p : List ℕ) {found : ℕ} → found ≡ count_below (is_of p 23) (records_of p) → found ≡ 0 → Decides (run (route_record_checks text p) 0 (records_of p)) Passed
+unfolding route_record_checks first
 no-routes text p e z =
     no-fault (record {
       within = omega arith;
-      passes = λ n h. cases (is_of p 23 n) (λ t. absurd (let s = below-some (is_of p 23) (recordsOf p) n h t in omega arith)) (λ f. rw f);
+      passes = λ n h. cases (is_of p 23 n) (λ t. absurd (let s = below-some (is_of p 23) (records_of p) n h t in omega arith)) (λ f. rw f);
       stops = λ h. absurd (omega arith);
     }) (omega arith)

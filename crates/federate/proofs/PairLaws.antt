@@ -18,55 +18,55 @@ use Rattle.answers.proofs.Laws.{none, pass}
 use Rattle.schema.specs.declared.index.RouteDirection.{RouteDirection}
 use Rattle.schema.specs.declared.index.RouteDirection.TheVariants as direction
 use Rattle.schema.specs.declared.rows.RouteImage.{RouteImage}
-use Rattle.schema.specs.Rows.{routeAt}
-use Rattle.packing.specs.Starts.{recordsOf}
-use Rattle.checks.specs.Identities.{isEqual}
-use Rattle.list_checks.specs.Routes.{directionNumber}
+use Rattle.schema.specs.Rows.{route_at}
+use Rattle.packing.specs.Starts.{records_of}
+use Rattle.checks.specs.Identities.{is_equal}
+use Rattle.list_checks.specs.Routes.{direction_number}
 use Rattle.federate.specs.declared.route_pairs.Half.{Half}
 use Rattle.federate.specs.declared.route_pairs.Half.TheVariants.{Inbound, Outbound, OtherDomain, OtherDelay}
 use Rattle.federate.specs.Records.{is_of}
-use Rattle.federate.specs.RoutePairs.{domainNumber, isHalf, halfAt, halves, pairChecks, routeRecordChecks}
-use Rattle.federate.specs.RouteOrder.{boundaryAt, areHalves}
+use Rattle.federate.specs.RoutePairs.{domain_number, is_half, half_at, halves, pair_checks, route_record_checks}
+use Rattle.federate.specs.RouteOrder.{boundary_at, are_halves}
 use Rattle.federate.proofs.Tests.{cases, no_both}
 use Rattle.federate.proofs.SortLaws.{below_or, same_or}
 use Rattle.federate.proofs.RowLaws.{both, not_so, below-zero, below-some, below_one, below_two}
 
 -- the record k is a route of record n's boundary
 abbrev pub Beside : (IdentityPlace → List ℕ) → List ℕ → ℕ → ℕ → Type 0
-Beside text p n k = (k < recordsOf p) × (is_of p 23 k ≡ true) × (boundaryAt text p k ≡ boundaryAt text p n)
+Beside text p n k = (k < records_of p) × (is_of p 23 k ≡ true) × (boundary_at text p k ≡ boundary_at text p n)
 
 -- records i and j are the two halves of one boundary
 abbrev pub Paired : List ℕ → ℕ → ℕ → Type 0
-Paired p i j = (directionNumber (routeAt p i).direction ≡ directionNumber (routeAt p j).direction → ⊥) × (domainNumber (routeAt p j).timing_domain ≡ domainNumber (routeAt p i).timing_domain) × ((routeAt p j).delay_nanos ≡ (routeAt p i).delay_nanos)
+Paired p i j = (direction_number (route_at p i).direction ≡ direction_number (route_at p j).direction → ⊥) × (domain_number (route_at p j).timing_domain ≡ domain_number (route_at p i).timing_domain) × ((route_at p j).delay_nanos ≡ (route_at p i).delay_nanos)
 
-pub halves_are : (p : List ℕ) (i j : ℕ) → areHalves (routeAt p i) (routeAt p j) ≡ true → Paired p i j
+pub halves_are : (p : List ℕ) (i j : ℕ) → are_halves (route_at p i) (route_at p j) ≡ true → Paired p i j
 halves_are p i j h =
-    let d = both (not (eqb (directionNumber (routeAt p i).direction) (directionNumber (routeAt p j).direction))) _ h in
-    let e = both (not (not (eqb (domainNumber (routeAt p j).timing_domain) (domainNumber (routeAt p i).timing_domain)))) _ d.1 in
+    let d = both (not (eqb (direction_number (route_at p i).direction) (direction_number (route_at p j).direction))) _ h in
+    let e = both (not (not (eqb (domain_number (route_at p j).timing_domain) (domain_number (route_at p i).timing_domain)))) _ d.1 in
     (eqb-false _ _ (not_so _ d.0), eqb-true _ _ (same _ e.0), eqb-true _ _ (same _ e.1))
   where
     same : (x : Bool) → not (not x) ≡ true → x ≡ true
     same true g = refl
     same false g = g
 
-pub are-halves : (p : List ℕ) (i j : ℕ) → Paired p i j → areHalves (routeAt p i) (routeAt p j) ≡ true
+pub are-halves : (p : List ℕ) (i j : ℕ) → Paired p i j → are_halves (route_at p i) (route_at p j) ≡ true
 are-halves p i j h = rw (ne_eqb _ _ h.0, eq-eqb _ _ h.1, eq-eqb _ _ h.2)
 
-equal-so : (o : ByteOrder) → isEqual o ≡ true → o ≡ Equal
+equal-so : (o : ByteOrder) → is_equal o ≡ true → o ≡ Equal
 equal-so Less h = absurd (no_both false h refl)
 equal-so Equal h = refl
 equal-so Greater h = absurd (no_both false h refl)
 
-by_way {ℓ} : {X : Type ℓ} (d : RouteDirection) → (directionNumber d ≡ 0 → X) → (directionNumber d ≡ 1 → X) → X
+by_way {ℓ} : {X : Type ℓ} (d : RouteDirection) → (direction_number d ≡ 0 → X) → (direction_number d ≡ 1 → X) → X
 by_way direction.Inbound a b = a refl
 by_way direction.Outbound a b = b refl
 
 -- of three routes two go one way
-way-few : (d : RouteDirection) → directionNumber d ≤ 1
+way-few : (d : RouteDirection) → direction_number d ≤ 1
 way-few direction.Inbound = omega arith
 way-few direction.Outbound = omega arith
 
-pub three_ways : (a b c : RouteDirection) → (directionNumber a ≡ directionNumber b → ⊥) → (directionNumber a ≡ directionNumber c → ⊥) → (directionNumber b ≡ directionNumber c → ⊥) → ⊥
+pub three_ways : (a b c : RouteDirection) → (direction_number a ≡ direction_number b → ⊥) → (direction_number a ≡ direction_number c → ⊥) → (direction_number b ≡ direction_number c → ⊥) → ⊥
 three_ways a b c x y z = omega (arith, way-few a, way-few b, way-few c)
 
 passed-so : (b : Bool) (r : Refusal) (cs : List Check) → first (need b r ∷ cs) ≡ Passed → (b ≡ true) × (first cs ≡ Passed)
@@ -74,80 +74,80 @@ unfolding first
 passed-so true r cs e = (refl, e)
 passed-so false r cs e = absurd (let z : ◌≡◌ {A = ℕ} 0 1 = cc in omega arith)
 
-module _ (text : IdentityPlace → List ℕ) (p : List ℕ) (n : ℕ) (inside : n < recordsOf p) (route : is_of p 23 n ≡ true) where
+module _ (text : IdentityPlace → List ℕ) (p : List ℕ) (n : ℕ) (inside : n < records_of p) (route : is_of p 23 n ≡ true) where
   abbrev own : RouteImage
-  own = routeAt p n
+  own = route_at p n
 
   -- a record that is counted, both ways
-  counts : (half : Half) (k : ℕ) → k < recordsOf p → halfAt text p own half k ≡ true → Beside text p n k × (isHalf half own (routeAt p k) ≡ true)
+  counts : (half : Half) (k : ℕ) → k < records_of p → half_at text p own half k ≡ true → Beside text p n k × (is_half half own (route_at p k) ≡ true)
   counts half k g h =
       let a = both (is_of p 23 k) _ h in
-      let b = both (isEqual (compared (boundaryAt text p k) (boundaryAt text p n))) (isHalf half own (routeAt p k)) a.1 in
+      let b = both (is_equal (compared (boundary_at text p k) (boundary_at text p n))) (is_half half own (route_at p k)) a.1 in
       ((g, a.0, compared-equal _ _ (equal-so _ b.0)), b.1)
 
-  is-counted : (half : Half) (k : ℕ) → Beside text p n k → isHalf half own (routeAt p k) ≡ true → halfAt text p own half k ≡ true
+  is-counted : (half : Half) (k : ℕ) → Beside text p n k → is_half half own (route_at p k) ≡ true → half_at text p own half k ≡ true
   is-counted half k b h =
-      let q : compared (boundaryAt text p k) (boundaryAt text p n) ≡ Equal = rw b.2 (compared_same (boundaryAt text p n)) in
+      let q : compared (boundary_at text p k) (boundary_at text p n) ≡ Equal = rw b.2 (compared_same (boundary_at text p n)) in
       rw (b.1, q) h
 
   module _ (pairs : (i j : ℕ) → Beside text p n i → Beside text p n j → (i ≡ j → ⊥) → (Paired p i j → ⊥) → ⊥) where
-    one_way : (half : Half) (d : ℕ) → ((k : ℕ) → isHalf half own (routeAt p k) ≡ true → directionNumber (routeAt p k).direction ≡ d) → halves text p own half ≤ 1
+    one_way : (half : Half) (d : ℕ) → ((k : ℕ) → is_half half own (route_at p k) ≡ true → direction_number (route_at p k).direction ≡ d) → halves text p own half ≤ 1
     one_way half d is =
-        below_one _ (recordsOf p) (λ i j hi hj ci cj. same_or i j
+        below_one _ (records_of p) (λ i j hi hj ci cj. same_or i j
         (λ e. e)
         (λ ne.
         let a = counts half i hi ci in
         let b = counts half j hj cj in
         absurd (pairs i j a.0 b.0 ne (λ h. h.0 (is i a.1 ∙ sym (is j b.1))))))
 
-    no_other : (half : Half) (v : RouteImage → ℕ) → ((k : ℕ) → isHalf half own (routeAt p k) ≡ true → v (routeAt p k) ≡ v own → ⊥) → ((k : ℕ) → Paired p n k → v (routeAt p k) ≡ v own) → halves text p own half ≡ 0
+    no_other : (half : Half) (v : RouteImage → ℕ) → ((k : ℕ) → is_half half own (route_at p k) ≡ true → v (route_at p k) ≡ v own → ⊥) → ((k : ℕ) → Paired p n k → v (route_at p k) ≡ v own) → halves text p own half ≡ 0
     no_other half v differs same =
-        below-zero _ (recordsOf p) (λ k h. cases (halfAt text p own half k)
+        below-zero _ (records_of p) (λ k h. cases (half_at text p own half k)
         (λ t.
         let a = counts half k h t in
         let d = differs k a.1 in
-        absurd (pairs n k (inside, route, refl) a.0 (λ e. d (ap (λ (i : ℕ). v (routeAt p i)) (sym e))) (λ q. d (same k q))))
+        absurd (pairs n k (inside, route, refl) a.0 (λ e. d (ap (λ (i : ℕ). v (route_at p i)) (sym e))) (λ q. d (same k q))))
         (λ f. f))
 
-    pub route-passes : Decides (pairChecks text p own) Passed
+    pub route-passes : Decides (pair_checks text p own) Passed
     route-passes =
         pass (le-leb _ 1 (one_way Inbound 0 (λ k e. eqb-true _ _ e)))
         (pass (le-leb _ 1 (one_way Outbound 1 (λ k e. eqb-true _ _ e)))
-        (pass (eq-eqb _ 0 (no_other OtherDomain (λ r. domainNumber r.timing_domain) (λ k e. eqb-false _ _ (not_so _ e)) (λ k h. h.1)))
+        (pass (eq-eqb _ 0 (no_other OtherDomain (λ r. domain_number r.timing_domain) (λ k e. eqb-false _ _ (not_so _ e)) (λ k h. h.1)))
         (pass (eq-eqb _ 0 (no_other OtherDelay (λ r. r.delay_nanos) (λ k e. eqb-false _ _ (not_so _ e)) (λ k h. h.2)))
         none)))
 
-  module _ (good : first (routeRecordChecks text p n) ≡ Passed) where
+  module _ (good : first (route_record_checks text p n) ≡ Passed) where
     all_pass : (leb (halves text p own Inbound) 1 ≡ true) × (leb (halves text p own Outbound) 1 ≡ true) × (eqb (halves text p own OtherDomain) 0 ≡ true) × (eqb (halves text p own OtherDelay) 0 ≡ true)
-    unfolding routeRecordChecks
+    unfolding route_record_checks
     all_pass =
-        let g : first (pairChecks text p own) ≡ Passed = rw route at good in
+        let g : first (pair_checks text p own) ≡ Passed = rw route at good in
         let a = passed-so _ _ _ g in
         let b = passed-so _ _ _ a.1 in
         let c = passed-so _ _ _ b.1 in
         let d = passed-so _ _ _ c.1 in
         (a.0, b.0, c.0, d.0)
 
-    two-of : (half : Half) → halves text p own half ≤ 1 → (i j : ℕ) → Beside text p n i → Beside text p n j → (i ≡ j → ⊥) → isHalf half own (routeAt p i) ≡ true → isHalf half own (routeAt p j) ≡ true → ⊥
+    two-of : (half : Half) → halves text p own half ≤ 1 → (i j : ℕ) → Beside text p n i → Beside text p n j → (i ≡ j → ⊥) → is_half half own (route_at p i) ≡ true → is_half half own (route_at p j) ≡ true → ⊥
     two-of half few i j bi bj ne hi hj =
         let a = is-counted half i bi hi in
         let b = is-counted half j bj hj in
         below_or i j
-        (λ lt. let t = below_two (halfAt text p own half) (recordsOf p) i j lt bj.0 a b in omega arith)
-        (λ ge. let t = below_two (halfAt text p own half) (recordsOf p) j i (omega arith) bi.0 b a in omega arith)
+        (λ lt. let t = below_two (half_at text p own half) (records_of p) i j lt bj.0 a b in omega arith)
+        (λ ge. let t = below_two (half_at text p own half) (records_of p) j i (omega arith) bi.0 b a in omega arith)
 
-    pub ways-differ : (i j : ℕ) → Beside text p n i → Beside text p n j → (i ≡ j → ⊥) → directionNumber (routeAt p i).direction ≡ directionNumber (routeAt p j).direction → ⊥
+    pub ways-differ : (i j : ℕ) → Beside text p n i → Beside text p n j → (i ≡ j → ⊥) → direction_number (route_at p i).direction ≡ direction_number (route_at p j).direction → ⊥
     ways-differ i j bi bj ne e =
-        by_way (routeAt p j).direction
+        by_way (route_at p j).direction
         (λ w. two-of Inbound (leb-true _ 1 all_pass.0) i j bi bj ne (eq-eqb _ 0 (e ∙ w)) (eq-eqb _ 0 w))
         (λ w. two-of Outbound (leb-true _ 1 all_pass.1) i j bi bj ne (eq-eqb _ 1 (e ∙ w)) (eq-eqb _ 1 w))
 
-    alike : (half : Half) → eqb (halves text p own half) 0 ≡ true → (k x y : ℕ) → Beside text p n k → isHalf half own (routeAt p k) ≡ not (eqb x y) → x ≡ y
+    alike : (half : Half) → eqb (halves text p own half) 0 ≡ true → (k x y : ℕ) → Beside text p n k → is_half half own (route_at p k) ≡ not (eqb x y) → x ≡ y
     alike half z k x y b e =
         cases (eqb x y)
         (λ t. eqb-true x y t)
         (λ f.
-        let s = below-some (halfAt text p own half) (recordsOf p) k b.0 (is-counted half k b (e ∙ rw f)) in
+        let s = below-some (half_at text p own half) (records_of p) k b.0 (is-counted half k b (e ∙ rw f)) in
         absurd (omega (arith, eqb-true (halves text p own half) 0 z)))
 
     pub pairs-up : (k : ℕ) → Beside text p n k → (n ≡ k → ⊥) → Paired p n k

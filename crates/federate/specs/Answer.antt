@@ -5,30 +5,30 @@ use Rattle.answers.specs.declared.Outcome.TheVariants.{Passed, Refused}
 use Rattle.answers.specs.Numbers.{numbers}
 use Rattle.answers.specs.Checks.{first}
 use Rattle.packing.specs.declared.PackKind.TheVariants.{Federate}
-use Rattle.packing.specs.Packing.{packingChecks}
-use Rattle.packing.specs.Starts.{recordsOf}
+use Rattle.packing.specs.Packing.{packing_checks}
+use Rattle.packing.specs.Starts.{records_of}
 use Rattle.enclave.specs.Answer.{unless}
 use Rattle.federate.specs.declared.FederateAnswer.{FederateAnswer}
 use Rattle.federate.specs.declared.FederateAnswer.TheVariants as answer
-use Rattle.federate.specs.Records.{enclavesOf}
-use Rattle.federate.specs.Enclaves.{linksBefore}
-use Rattle.federate.specs.Federate.{federateChecks}
+use Rattle.federate.specs.Records.{enclaves_of}
+use Rattle.federate.specs.Enclaves.{links_before}
+use Rattle.federate.specs.Federate.{federate_checks}
 
 -- the numbers of an answer
-abbrev pub federateNumbers : FederateAnswer → List ℕ
-federateNumbers (answer.Accepted enclaves links) = 0 ∷ enclaves ∷ links ∷ []
-federateNumbers (answer.Refused r) = numbers r
+abbrev pub federate_numbers : FederateAnswer → List ℕ
+federate_numbers (answer.Accepted enclaves links) = 0 ∷ enclaves ∷ links ∷ []
+federate_numbers (answer.Refused r) = numbers r
 
 -- a refusal, passed up
-abbrev pub refusedBy : Outcome → FederateAnswer
-refusedBy Passed = answer.Accepted 0 0
-refusedBy (Refused r) = answer.Refused r
+abbrev pub refused_by : Outcome → FederateAnswer
+refused_by Passed = answer.Accepted 0 0
+refused_by (Refused r) = answer.Refused r
 
 -- the links of all enclaves
-abbrev pub federateLinks : List ℕ → List ℕ → List ℕ → ℕ
-federateLinks p batch house = linksBefore p batch house (recordsOf p)
+abbrev pub federate_links : List ℕ → List ℕ → List ℕ → ℕ
+federate_links p batch house = links_before p batch house (records_of p)
 
 -- the answer for a pack: packing first
-unfoldable pub federateAnswer : List ℕ → List ℕ → List ℕ → List ℕ
-federateAnswer p batch house =
-    unless (first (packingChecks Federate p batch house)) (unless (first (federateChecks p batch house)) (0 ∷ enclavesOf p ∷ federateLinks p batch house ∷ []))
+unfoldable pub federate_answer : List ℕ → List ℕ → List ℕ → List ℕ
+federate_answer p batch house =
+    unless (first (packing_checks Federate p batch house)) (unless (first (federate_checks p batch house)) (0 ∷ enclaves_of p ∷ federate_links p batch house ∷ []))

@@ -1,40 +1,40 @@
 -- The enclaves of a federate in turn (view.rs, `validate_federate_enclaves`). Assumes nothing.
 use Rattle.std.specs.Prelude.{ℕ, zero, suc, ◌+◌, ◌%◌, ◌^◌, cond, List, [], ◌++◌}
-use Rattle.identity.specs.Text.{identityText}
+use Rattle.identity.specs.Text.{identity_text}
 use Rattle.identity.specs.declared.IdentityPlace.{IdentityPlace}
 use Rattle.answers.specs.Fields as field
 use Rattle.answers.specs.Checks.{Check}
-use Rattle.schema.specs.Rows.{enclaveAt}
+use Rattle.schema.specs.Rows.{enclave_at}
 use Rattle.checks.specs.Image.{Image}
-use Rattle.checks.specs.Lists.{afterFirst}
-use Rattle.checks.specs.Identities.{idOrderChecks}
+use Rattle.checks.specs.Lists.{after_first}
+use Rattle.checks.specs.Identities.{id_order_checks}
 use Rattle.scope_checks.specs.Links.{links}
-use Rattle.enclave.specs.Passes.{enclaveChecks}
-use Rattle.enclave.specs.Answer.{packImage}
-use Rattle.federate.specs.Records.{is_of, enclavesBefore, enclaveBefore, enclavePack}
+use Rattle.enclave.specs.Passes.{enclave_checks}
+use Rattle.enclave.specs.Answer.{pack_image}
+use Rattle.federate.specs.Records.{is_of, enclaves_before, enclave_before, enclave_pack}
 
 -- the image of the enclave of record n: that of its own pack
-abbrev pub imageAt : List ℕ → List ℕ → List ℕ → ℕ → Image
-imageAt p batch house n = packImage (enclavePack p n) batch house
+abbrev pub image_at : List ℕ → List ℕ → List ℕ → ℕ → Image
+image_at p batch house n = pack_image (enclave_pack p n) batch house
 
 abbrev pub id_at : List ℕ → ℕ → IdentityPlace
-id_at p n = (enclaveAt p n).enclave_id
+id_at p n = (enclave_at p n).enclave_id
 
 -- the index shown: the span's start plus the enclave's place, as a W
-abbrev pub indexFrom : ℕ → ℕ → ℕ
-indexFrom start place = (start + place) % 2 ^ 32
+abbrev pub index_from : ℕ → ℕ → ℕ
+index_from start place = (start + place) % 2 ^ 32
 
 -- its identity against that of the enclave before
-abbrev pub orderChecks : List ℕ → List ℕ → List ℕ → ℕ → ℕ → List Check
-orderChecks p batch house start n =
-    afterFirst (enclavesBefore p n) (idOrderChecks (identityText batch house) field.kindEnclave (indexFrom start (enclavesBefore p n)) (id_at p n) (id_at p (enclaveBefore p n)))
+abbrev pub order_checks : List ℕ → List ℕ → List ℕ → ℕ → ℕ → List Check
+order_checks p batch house start n =
+    after_first (enclaves_before p n) (id_order_checks (identity_text batch house) field.kind_enclave (index_from start (enclaves_before p n)) (id_at p n) (id_at p (enclave_before p n)))
 
 -- record n, where it is an enclave's: the enclave's own checks, then its identity's
-unfoldable pub recordChecks : List ℕ → List ℕ → List ℕ → ℕ → ℕ → List Check
-recordChecks p batch house start n =
-    cond (is_of p 1 n) (enclaveChecks (imageAt p batch house n) ++ orderChecks p batch house start n) []
+unfoldable pub record_checks : List ℕ → List ℕ → List ℕ → ℕ → ℕ → List Check
+record_checks p batch house start n =
+    cond (is_of p 1 n) (enclave_checks (image_at p batch house n) ++ order_checks p batch house start n) []
 
 -- the links of the enclaves before record n
-unfoldable pub linksBefore : List ℕ → List ℕ → List ℕ → ℕ → ℕ
-linksBefore p batch house zero = 0
-linksBefore p batch house (suc n) = linksBefore p batch house n + cond (is_of p 1 n) (links (imageAt p batch house n)) 0
+unfoldable pub links_before : List ℕ → List ℕ → List ℕ → ℕ → ℕ
+links_before p batch house zero = 0
+links_before p batch house (suc n) = links_before p batch house n + cond (is_of p 1 n) (links (image_at p batch house n)) 0

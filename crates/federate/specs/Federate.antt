@@ -1,44 +1,44 @@
 -- The checks of a federate in their order (document 01, "Line"; view.rs, `validate_federate_const`). Assumes nothing.
 use Rattle.std.specs.Prelude.{ℕ, ◌^◌, List, [], ◌∷◌, ◌++◌, eqb}
 use Rattle.identity.specs.declared.IdentityPlace.{IdentityPlace}
-use Rattle.identity.specs.Text.{identityText}
-use Rattle.range.specs.Range.{checkedEnd}
+use Rattle.identity.specs.Text.{identity_text}
+use Rattle.range.specs.Range.{checked_end}
 use Rattle.answers.specs.declared.Refusal.TheVariants.{RangeOutOfBounds, OwnershipMismatch}
 use Rattle.answers.specs.Fields as field
 use Rattle.answers.specs.Checks.{Check, need, run}
 use Rattle.schema.specs.declared.rows.FederateImage.{FederateImage}
-use Rattle.schema.specs.Rows.{federateAt}
-use Rattle.packing.specs.Starts.{recordsOf}
-use Rattle.checks.specs.Refs.{endWithin}
-use Rattle.checks.specs.Identities.{idCheck}
-use Rattle.federate.specs.Records.{enclavesOf}
-use Rattle.federate.specs.Enclaves.{recordChecks}
-use Rattle.federate.specs.RoutePairs.{routeRecordChecks}
+use Rattle.schema.specs.Rows.{federate_at}
+use Rattle.packing.specs.Starts.{records_of}
+use Rattle.checks.specs.Refs.{end_within}
+use Rattle.checks.specs.Identities.{id_check}
+use Rattle.federate.specs.Records.{enclaves_of}
+use Rattle.federate.specs.Enclaves.{record_checks}
+use Rattle.federate.specs.RoutePairs.{route_record_checks}
 
 -- the enclaves' span ends, and not past the keys of enclaves ("Enclave key domain", table 255)
-abbrev pub spanCheck : FederateImage → Check
-spanCheck f =
+abbrev pub span_check : FederateImage → Check
+span_check f =
     let span = f.enclaves.0 in
-    need (endWithin (checkedEnd span.start span.len) (2 ^ 32)) (RangeOutOfBounds 0 0 field.enclaves 255 span.start span.len)
+    need (end_within (checked_end span.start span.len) (2 ^ 32)) (RangeOutOfBounds 0 0 field.enclaves 255 span.start span.len)
 
 -- id, target, runtime, span
-abbrev pub metadataChecks : (IdentityPlace → List ℕ) → FederateImage → List Check
-metadataChecks text f =
-    idCheck text field.kindFederate 0 f.id
-    ∷ idCheck text field.kindTarget 0 f.target
-    ∷ idCheck text field.kindRuntime 0 f.runtime
-    ∷ spanCheck f
+abbrev pub metadata_checks : (IdentityPlace → List ℕ) → FederateImage → List Check
+metadata_checks text f =
+    id_check text field.kind_federate 0 f.id
+    ∷ id_check text field.kind_target 0 f.target
+    ∷ id_check text field.kind_runtime 0 f.runtime
+    ∷ span_check f
     ∷ []
 
 -- as many enclaves as the span has
-abbrev pub countCheck : FederateImage → ℕ → Check
-countCheck f enclaves = need (eqb enclaves f.enclaves.0.len) (OwnershipMismatch 0 0 field.enclaves)
+abbrev pub count_check : FederateImage → ℕ → Check
+count_check f enclaves = need (eqb enclaves f.enclaves.0.len) (OwnershipMismatch 0 0 field.enclaves)
 
 -- the federate, each enclave, each route
-unfoldable pub federateChecks : List ℕ → List ℕ → List ℕ → List Check
-federateChecks p batch house =
-    let f = federateAt p 0 in
-    metadataChecks (identityText batch house) f
-    ++ ((countCheck f (enclavesOf p) ∷ [])
-    ++ (run (recordChecks p batch house f.enclaves.0.start) 0 (recordsOf p)
-    ++ run (routeRecordChecks (identityText batch house) p) 0 (recordsOf p)))
+unfoldable pub federate_checks : List ℕ → List ℕ → List ℕ → List Check
+federate_checks p batch house =
+    let f = federate_at p 0 in
+    metadata_checks (identity_text batch house) f
+    ++ ((count_check f (enclaves_of p) ∷ [])
+    ++ (run (record_checks p batch house f.enclaves.0.start) 0 (records_of p)
+    ++ run (route_record_checks (identity_text batch house) p) 0 (records_of p)))

@@ -7,26 +7,26 @@ use Rattle.identity.specs.Order.{compared}
 use Rattle.answers.specs.declared.Outcome.TheVariants.{Passed}
 use Rattle.answers.specs.Checks.{Check, first}
 use Rattle.schema.specs.declared.rows.RouteImage.{RouteImage}
-use Rattle.schema.specs.Rows.{routeAt}
-use Rattle.packing.specs.Starts.{recordsOf}
-use Rattle.list_checks.specs.Routes.{directionNumber}
+use Rattle.schema.specs.Rows.{route_at}
+use Rattle.packing.specs.Starts.{records_of}
+use Rattle.list_checks.specs.Routes.{direction_number}
 use Rattle.federate.specs.declared.route_pairs.Half.TheVariants.{OtherDomain, OtherDelay}
-use Rattle.federate.specs.Records.{is_of, countBelow}
-use Rattle.federate.specs.RoutePairs.{isHalf}
+use Rattle.federate.specs.Records.{is_of, count_below}
+use Rattle.federate.specs.RoutePairs.{is_half}
 
 -- the text of record n's boundary
-abbrev pub boundaryAt : (IdentityPlace → List ℕ) → List ℕ → ℕ → List ℕ
-boundaryAt text p n = text (routeAt p n).boundary
+abbrev pub boundary_at : (IdentityPlace → List ℕ) → List ℕ → ℕ → List ℕ
+boundary_at text p n = text (route_at p n).boundary
 
 -- t decides where the texts are the same
-abbrev pub notAfter : ByteOrder → Bool → Bool
-notAfter Less t = true
-notAfter Equal t = t
-notAfter Greater t = false
+abbrev pub not_after : ByteOrder → Bool → Bool
+not_after Less t = true
+not_after Equal t = t
+not_after Greater t = false
 
 -- row a stands before row b, or is it: by its text, then by its number
 unfoldable pub before : (ℕ → List ℕ) → ℕ → ℕ → Bool
-before key a b = notAfter (compared (key a) (key b)) (leb a b)
+before key a b = not_after (compared (key a) (key b)) (leb a b)
 
 -- how many of a list pass a test
 unfoldable pub count : (ℕ → Bool) → List ℕ → ℕ
@@ -52,16 +52,16 @@ pub record Picks (le : ℕ → ℕ → Bool) (xs ys : List ℕ) (i j : ℕ) (r :
 
 -- the rows are the records of table t, in any order
 pub record Listed (p : List ℕ) (t : ℕ) (rows : List ℕ) : Type 0 where
-  pub all : (f : ℕ → Bool) → count f rows ≡ countBelow (λ n. is_of p t n && f n) (recordsOf p)
+  pub all : (f : ℕ → Bool) → count f rows ≡ count_below (λ n. is_of p t n && f n) (records_of p)
 
 -- two routes of one boundary that are its two halves: one in and one out, of one domain and one delay
-abbrev pub areHalves : RouteImage → RouteImage → Bool
-areHalves a b = not (eqb (directionNumber a.direction) (directionNumber b.direction)) && (not (isHalf OtherDomain a b) && not (isHalf OtherDelay a b))
+abbrev pub are_halves : RouteImage → RouteImage → Bool
+are_halves a b = not (eqb (direction_number a.direction) (direction_number b.direction)) && (not (is_half OtherDomain a b) && not (is_half OtherDelay a b))
 
 -- the row after place k is of another boundary, or it is the other half and the next one is of another boundary
 pub record Fits (text : IdentityPlace → List ℕ) (p rows : List ℕ) (k : ℕ) : Type 0 where
-  pub next : k + 1 < length rows → boundaryAt text p (get_or rows k 0) ≡ boundaryAt text p (get_or rows (k + 1) 0) → areHalves (routeAt p (get_or rows k 0)) (routeAt p (get_or rows (k + 1) 0)) ≡ true
-  pub third : k + 2 < length rows → boundaryAt text p (get_or rows k 0) ≡ boundaryAt text p (get_or rows (k + 1) 0) → boundaryAt text p (get_or rows k 0) ≡ boundaryAt text p (get_or rows (k + 2) 0) → ⊥
+  pub next : k + 1 < length rows → boundary_at text p (get_or rows k 0) ≡ boundary_at text p (get_or rows (k + 1) 0) → are_halves (route_at p (get_or rows k 0)) (route_at p (get_or rows (k + 1) 0)) ≡ true
+  pub third : k + 2 < length rows → boundary_at text p (get_or rows k 0) ≡ boundary_at text p (get_or rows (k + 1) 0) → boundary_at text p (get_or rows k 0) ≡ boundary_at text p (get_or rows (k + 2) 0) → ⊥
 
 -- r tells whether A holds
 pub record Tells (A : Type 0) (r : Bool) : Type 0 where
@@ -70,9 +70,9 @@ pub record Tells (A : Type 0) (r : Bool) : Type 0 where
 
 -- of the first k places, those with a row below `least` fit; not all of that row do, where it is a record
 pub record Scanned (text : IdentityPlace → List ℕ) (p rows : List ℕ) (k least : ℕ) : Type 0 where
-  pub within : least ≤ recordsOf p
+  pub within : least ≤ records_of p
   pub fits : (j : ℕ) → j < k → get_or rows j 0 < least → Fits text p rows j
-  pub named : least < recordsOf p → ((j : ℕ) → j < k → get_or rows j 0 ≡ least → Fits text p rows j) → ⊥
+  pub named : least < records_of p → ((j : ℕ) → j < k → get_or rows j 0 ≡ least → Fits text p rows j) → ⊥
 
 -- of n lists of checks, the first i pass, and the next does not
 pub record FirstFault (f : ℕ → List Check) (i n : ℕ) : Type 0 where

@@ -1,6 +1,6 @@
 // The check of a federate: packing, its own record, each enclave, then the routes.
 ghost use Rattle.std.specs.Prelude.{◌≡◌};
-ghost use Rattle.federate.specs.Answer.{refusedBy, federateNumbers, federateAnswer};
+ghost use Rattle.federate.specs.Answer.{refused_by, federate_numbers, federate_answer};
 
 use crate::FederateAnswer;
 use crate::enclaves::validate_federate_enclaves;
@@ -15,7 +15,7 @@ use schema::read;
 
 // A refusal, passed up.
 fn refused(outcome: Outcome) -> FederateAnswer
-    ensures { result ≡ refusedBy outcome }
+    ensures { result ≡ refused_by outcome }
 {
     match outcome {
         Outcome::Passed => FederateAnswer::Accepted {
@@ -28,7 +28,7 @@ fn refused(outcome: Outcome) -> FederateAnswer
 
 // The answer of `FederateImageView::new` for a federate pack and its two texts.
 pub fn check_federate<'a>(pack: &'a [u8], batch: &'a [u8], house: &'a [u8]) -> FederateAnswer
-    ensures { federateNumbers result ≡ federateAnswer pack.now batch.now house.now }
+    ensures { federate_numbers result ≡ federate_answer pack.now batch.now house.now }
 {
     let packed = check_packing(PackKind::Federate, pack, batch, house);
     let Outcome::Passed = packed else {

@@ -1,11 +1,11 @@
 // The enclaves of a federate in turn: each one's own checks, then its identity against that of the one before.
 ghost use Rattle.std.specs.Prelude.{◌≡◌, ◌<◌, true};
 ghost use Rattle.answers.specs.Checks.{first, run, Decides};
-ghost use Rattle.packing.specs.Starts.{recordsOf};
+ghost use Rattle.packing.specs.Starts.{records_of};
 ghost use Rattle.scope_checks.specs.Links.{links};
-ghost use Rattle.enclave.specs.Answer.{answer_of, imageResult};
-ghost use Rattle.federate.specs.Records.{is_of, enclavesBefore, enclaveBefore};
-ghost use Rattle.federate.specs.Enclaves.{indexFrom, imageAt, orderChecks, recordChecks, linksBefore};
+ghost use Rattle.enclave.specs.Answer.{answer_of, image_result};
+ghost use Rattle.federate.specs.Records.{is_of, enclaves_before, enclave_before};
+ghost use Rattle.federate.specs.Enclaves.{index_from, image_at, order_checks, record_checks, links_before};
 ghost use Rattle.schema.specs.Rows.{Whole};
 
 use crate::records;
@@ -20,15 +20,15 @@ const KEYS: u64 = 0x1_0000_0000;
 
 // The index shown for an enclave.
 fn index_from(start: u64, place: u32) -> u32
-    ensures { result ≡ indexFrom start place }
+    ensures { result ≡ index_from start place }
 {
     ((start % KEYS + place as u64) % KEYS) as u32
 }
 
 // The answer of the enclave of record n, by its own pack.
 fn check_enclave_at<'a>(pack: &'a [u8], batch: &'a [u8], house: &'a [u8], n: u32) -> EnclaveAnswer
-    requires { (n < recordsOf pack.now) × Whole pack.now }
-    ensures { result ≡ imageResult (imageAt pack.now batch.now house.now n) }
+    requires { (n < records_of pack.now) × Whole pack.now }
+    ensures { result ≡ image_result (image_at pack.now batch.now house.now n) }
 {
     let own = records::enclave_pack(pack, n);
     let s = starts::table_starts(own, 1);
@@ -45,8 +45,8 @@ fn check_order<'a>(
     place: u32,
     before: u32,
 ) -> Outcome
-    requires { (place ≡ enclavesBefore pack.now n) × (before ≡ enclaveBefore pack.now n) × Whole pack.now }
-    ensures { Decides (orderChecks pack.now batch.now house.now start n) result }
+    requires { (place ≡ enclaves_before pack.now n) × (before ≡ enclave_before pack.now n) × Whole pack.now }
+    ensures { Decides (order_checks pack.now batch.now house.now start n) result }
 {
     if place == 0 {
         return Outcome::Passed;
@@ -71,8 +71,8 @@ fn check_record<'a>(
     place: u32,
     before: u32,
 ) -> EnclaveAnswer
-    requires { (n < recordsOf pack.now) × ((is_of pack.now 1 n ≡ true) × ((place ≡ enclavesBefore pack.now n) × (before ≡ enclaveBefore pack.now n))) × Whole pack.now }
-    ensures { result ≡ answer_of (first (recordChecks pack.now batch.now house.now start n)) (links (imageAt pack.now batch.now house.now n)) }
+    requires { (n < records_of pack.now) × ((is_of pack.now 1 n ≡ true) × ((place ≡ enclaves_before pack.now n) × (before ≡ enclave_before pack.now n))) × Whole pack.now }
+    ensures { result ≡ answer_of (first (record_checks pack.now batch.now house.now start n)) (links (image_at pack.now batch.now house.now n)) }
 {
     let answer = check_enclave_at(pack, batch, house, n);
     let EnclaveAnswer::Accepted { links: _ } = answer else {
@@ -93,7 +93,7 @@ pub fn validate_federate_enclaves<'a>(
     start: u64,
 ) -> EnclaveAnswer
     requires { Whole pack.now }
-    ensures { result ≡ answer_of (first (run (recordChecks pack.now batch.now house.now start) 0 (recordsOf pack.now))) (linksBefore pack.now batch.now house.now (recordsOf pack.now)) }
+    ensures { result ≡ answer_of (first (run (record_checks pack.now batch.now house.now start) 0 (records_of pack.now))) (links_before pack.now batch.now house.now (records_of pack.now)) }
 {
     let records = records::records_of(pack);
     let mut links: u64 = 0;

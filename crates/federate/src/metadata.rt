@@ -1,10 +1,10 @@
 // The federate's own record: its identities, and its span of enclaves.
 ghost use Rattle.std.specs.Prelude.{◌≡◌, [], ◌∷◌, ◌^◌};
-ghost use Rattle.range.specs.Range.{checkedEnd};
-ghost use Rattle.checks.specs.Refs.{endWithin};
-ghost use Rattle.identity.specs.Text.{identityText};
+ghost use Rattle.range.specs.Range.{checked_end};
+ghost use Rattle.checks.specs.Refs.{end_within};
+ghost use Rattle.identity.specs.Text.{identity_text};
 ghost use Rattle.answers.specs.Checks.{Decides};
-ghost use Rattle.federate.specs.Federate.{spanCheck, metadataChecks, countCheck};
+ghost use Rattle.federate.specs.Federate.{span_check, metadata_checks, count_check};
 
 use answers::{Outcome, Refusal, field, kind};
 use checks::identities;
@@ -18,7 +18,7 @@ const MAX_ENCLAVES: u64 = 0x1_0000_0000;
 
 // Whether the span ends, and not past the keys of enclaves.
 fn span_fits(span: IndexSpan) -> bool
-    ensures { result ≡ endWithin (checkedEnd span.start span.len) (2 ^ 32) }
+    ensures { result ≡ end_within (checked_end span.start span.len) (2 ^ 32) }
 {
     let checked = span.checked_end();
     let CheckedEnd::End(end) = checked else {
@@ -28,7 +28,7 @@ fn span_fits(span: IndexSpan) -> bool
 }
 
 fn check_span(federate: FederateImage) -> Outcome
-    ensures { Decides (spanCheck federate ∷ []) result }
+    ensures { Decides (span_check federate ∷ []) result }
 {
     let span = federate.enclaves.0;
     if span_fits(span) {
@@ -50,7 +50,7 @@ pub fn validate_federate_metadata<'a>(
     house: &'a [u8],
     federate: FederateImage,
 ) -> Outcome
-    ensures { Decides (metadataChecks (identityText batch.now house.now) federate) result }
+    ensures { Decides (metadata_checks (identity_text batch.now house.now) federate) result }
 {
     let a = identities::validate_id(batch, house, kind::FEDERATE, 0, federate.id);
     let Outcome::Passed = a else {
@@ -69,7 +69,7 @@ pub fn validate_federate_metadata<'a>(
 
 // As many enclaves as the span has.
 pub fn check_enclave_count(federate: FederateImage, enclaves: u32) -> Outcome
-    ensures { Decides (countCheck federate enclaves ∷ []) result }
+    ensures { Decides (count_check federate enclaves ∷ []) result }
 {
     if enclaves as u64 == federate.enclaves.0.len {
         return Outcome::Passed;

@@ -1,13 +1,13 @@
 // The first route at fault: rows sorted by their boundaries, and one pass over neighbours.
 ghost use Rattle.std.specs.Prelude.{not, ◌≡◌, ◌<◌, ◌≤◌, length};
-ghost use Rattle.identity.specs.Text.{identityText};
+ghost use Rattle.identity.specs.Text.{identity_text};
 ghost use Rattle.identity.specs.Order.{compared};
-ghost use Rattle.schema.specs.Rows.{Whole, routeAt};
-ghost use Rattle.packing.specs.Starts.{recordsOf};
-ghost use Rattle.checks.specs.Identities.{isEqual};
-ghost use Rattle.federate.specs.Records.{is_of, countBelow};
-ghost use Rattle.federate.specs.RoutePairs.{routeRecordChecks};
-ghost use Rattle.federate.specs.RouteOrder.{boundaryAt, areHalves, Listed, Fits, Tells, Scanned, FirstFault};
+ghost use Rattle.schema.specs.Rows.{Whole, route_at};
+ghost use Rattle.packing.specs.Starts.{records_of};
+ghost use Rattle.checks.specs.Identities.{is_equal};
+ghost use Rattle.federate.specs.Records.{is_of, count_below};
+ghost use Rattle.federate.specs.RoutePairs.{route_record_checks};
+ghost use Rattle.federate.specs.RouteOrder.{boundary_at, are_halves, Listed, Fits, Tells, Scanned, FirstFault};
 
 use crate::route_pairs::Half;
 use crate::{records, route_pairs, route_sort};
@@ -23,7 +23,7 @@ const MAX_ROUTES: usize = 65536;
 
 // The records of a table, in their order.
 fn list(pack: &[u8], table: u8, rows: &mut [u32])
-    requires { (length rows.old ≡ countBelow (is_of pack.now table) (recordsOf pack.now)) × Whole pack.now }
+    requires { (length rows.old ≡ count_below (is_of pack.now table) (records_of pack.now)) × Whole pack.now }
     ensures { Listed pack.now table rows.new }
 {
     let records = records::records_of(pack);
@@ -41,7 +41,7 @@ fn list(pack: &[u8], table: u8, rows: &mut [u32])
 
 // Whether two routes of one boundary are its two halves.
 fn are_halves(a: RouteImage, b: RouteImage) -> bool
-    ensures { result ≡ areHalves a b }
+    ensures { result ≡ are_halves a b }
 {
     let own = a.direction;
     let other = b.direction;
@@ -57,7 +57,7 @@ fn are_halves(a: RouteImage, b: RouteImage) -> bool
 // The same of records a and b.
 fn are_halves_at(pack: &[u8], a: u32, b: u32) -> bool
     requires { Whole pack.now }
-    ensures { result ≡ areHalves (routeAt pack.now a) (routeAt pack.now b) }
+    ensures { result ≡ are_halves (route_at pack.now a) (route_at pack.now b) }
 {
     are_halves(
         read::route_at(pack, a as usize),
@@ -68,7 +68,7 @@ fn are_halves_at(pack: &[u8], a: u32, b: u32) -> bool
 // Whether records a and b are of two boundaries.
 fn are_apart<'a>(pack: &'a [u8], batch: &'a [u8], house: &'a [u8], a: u32, b: u32) -> bool
     requires { Whole pack.now }
-    ensures { result ≡ not (isEqual (compared (boundaryAt (identityText batch.now house.now) pack.now a) (boundaryAt (identityText batch.now house.now) pack.now b))) }
+    ensures { result ≡ not (is_equal (compared (boundary_at (identity_text batch.now house.now) pack.now a) (boundary_at (identity_text batch.now house.now) pack.now b))) }
 {
     let order = route_sort::order_of(pack, batch, house, a, b);
     match order {
@@ -81,7 +81,7 @@ fn are_apart<'a>(pack: &'a [u8], batch: &'a [u8], house: &'a [u8], a: u32, b: u3
 // Whether the row at place k is alone in its boundary, or its other half follows and no third.
 fn fits<'a>(pack: &'a [u8], batch: &'a [u8], house: &'a [u8], rows: &[u32], k: usize) -> bool
     requires { (k < length rows.now) × Whole pack.now }
-    ensures { Tells (Fits (identityText batch.now house.now) pack.now rows.now k) result }
+    ensures { Tells (Fits (identity_text batch.now house.now) pack.now rows.now k) result }
 {
     let next = k + 1;
     if next >= rows.len() {
@@ -105,7 +105,7 @@ fn fits<'a>(pack: &'a [u8], batch: &'a [u8], house: &'a [u8], rows: &[u32], k: u
 // The smallest row that does not fit where it stands; the number of records where all fit.
 fn least_misfit<'a>(pack: &'a [u8], batch: &'a [u8], house: &'a [u8], rows: &[u32]) -> u32
     requires { Whole pack.now }
-    ensures { Scanned (identityText batch.now house.now) pack.now rows.now (length rows.now) result }
+    ensures { Scanned (identity_text batch.now house.now) pack.now rows.now (length rows.now) result }
 {
     let records = records::records_of(pack);
     let mut least = records;
@@ -131,8 +131,8 @@ fn fault_in<'a>(
     rows: &mut [u32],
     spare: &mut [u32],
 ) -> u32
-    requires { (length rows.old ≡ countBelow (is_of pack.now 23) (recordsOf pack.now)) × (length rows.old ≤ length spare.old) × Whole pack.now }
-    ensures { FirstFault (routeRecordChecks (identityText batch.now house.now) pack.now) result (recordsOf pack.now) }
+    requires { (length rows.old ≡ count_below (is_of pack.now 23) (records_of pack.now)) × (length rows.old ≤ length spare.old) × Whole pack.now }
+    ensures { FirstFault (route_record_checks (identity_text batch.now house.now) pack.now) result (records_of pack.now) }
 {
     list(pack, RouteImage::TABLE, rows);
     route_sort::sort(pack, batch, house, rows, spare);
@@ -148,8 +148,8 @@ fn fault_within<'a>(
     spare: &mut [u32],
     routes: usize,
 ) -> u32
-    requires { (routes ≡ countBelow (is_of pack.now 23) (recordsOf pack.now)) × (routes ≤ length rows.old) × (length rows.old ≤ length spare.old) × Whole pack.now }
-    ensures { FirstFault (routeRecordChecks (identityText batch.now house.now) pack.now) result (recordsOf pack.now) }
+    requires { (routes ≡ count_below (is_of pack.now 23) (records_of pack.now)) × (routes ≤ length rows.old) × (length rows.old ≤ length spare.old) × Whole pack.now }
+    ensures { FirstFault (route_record_checks (identity_text batch.now house.now) pack.now) result (records_of pack.now) }
 {
     fault_in(pack, batch, house, &mut rows[..routes], spare)
 }
@@ -164,8 +164,8 @@ fn fault_by<'a>(
     spare: &mut [u32],
     routes: usize,
 ) -> u32
-    requires { (routes ≡ countBelow (is_of pack.now 23) (recordsOf pack.now)) × (routes ≤ 65536) × (length rows.old ≤ length spare.old) × Whole pack.now }
-    ensures { FirstFault (routeRecordChecks (identityText batch.now house.now) pack.now) result (recordsOf pack.now) }
+    requires { (routes ≡ count_below (is_of pack.now 23) (records_of pack.now)) × (routes ≤ 65536) × (length rows.old ≤ length spare.old) × Whole pack.now }
+    ensures { FirstFault (route_record_checks (identity_text batch.now house.now) pack.now) result (records_of pack.now) }
 {
     if rows.len() < routes {
         return fault_by(
@@ -189,8 +189,8 @@ fn fault_some<'a>(
     spare: &mut [u32],
     routes: usize,
 ) -> u32
-    requires { (routes ≡ countBelow (is_of pack.now 23) (recordsOf pack.now)) × (routes ≤ 1024) × (length rows.old ≤ length spare.old) × Whole pack.now }
-    ensures { FirstFault (routeRecordChecks (identityText batch.now house.now) pack.now) result (recordsOf pack.now) }
+    requires { (routes ≡ count_below (is_of pack.now 23) (records_of pack.now)) × (routes ≤ 1024) × (length rows.old ≤ length spare.old) × Whole pack.now }
+    ensures { FirstFault (route_record_checks (identity_text batch.now house.now) pack.now) result (records_of pack.now) }
 {
     if rows.len() < routes {
         return fault_some(
@@ -207,8 +207,8 @@ fn fault_some<'a>(
 
 // The first record at fault of a pack with so many routes; the number of records where none is.
 pub fn first_fault<'a>(pack: &'a [u8], batch: &'a [u8], house: &'a [u8], routes: u32) -> u32
-    requires { (routes ≡ countBelow (is_of pack.now 23) (recordsOf pack.now)) × Whole pack.now }
-    ensures { FirstFault (routeRecordChecks (identityText batch.now house.now) pack.now) result (recordsOf pack.now) }
+    requires { (routes ≡ count_below (is_of pack.now 23) (records_of pack.now)) × Whole pack.now }
+    ensures { FirstFault (route_record_checks (identity_text batch.now house.now) pack.now) result (records_of pack.now) }
 {
     let n = routes as usize;
     let mut rows = [0u32; 0];

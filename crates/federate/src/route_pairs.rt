@@ -1,9 +1,9 @@
 // The routes of a federate, each against all of its boundary.
 ghost use Rattle.std.specs.Prelude.{◌≡◌};
-ghost use Rattle.identity.specs.Text.{identityText};
+ghost use Rattle.identity.specs.Text.{identity_text};
 ghost use Rattle.answers.specs.Checks.{run, Decides};
-ghost use Rattle.packing.specs.Starts.{recordsOf};
-ghost use Rattle.federate.specs.RoutePairs.{domainNumber, isHalf, halfAt, halves, pairChecks, routeRecordChecks};
+ghost use Rattle.packing.specs.Starts.{records_of};
+ghost use Rattle.federate.specs.RoutePairs.{domain_number, is_half, half_at, halves, pair_checks, route_record_checks};
 ghost use Rattle.schema.specs.Rows.{Whole};
 
 use crate::{records, route_faults};
@@ -27,7 +27,7 @@ pub enum Half {
 }
 
 fn domain_number(domain: TimingDomain) -> u8
-    ensures { result ≡ domainNumber domain }
+    ensures { result ≡ domain_number domain }
 {
     match domain {
         TimingDomain::Logical => 0,
@@ -37,7 +37,7 @@ fn domain_number(domain: TimingDomain) -> u8
 
 // Whether a route of the same boundary counts.
 pub fn is_half(half: Half, route: RouteImage, candidate: RouteImage) -> bool
-    ensures { result ≡ isHalf half route candidate }
+    ensures { result ≡ is_half half route candidate }
 {
     let direction = candidate.direction;
     let domain = candidate.timing_domain;
@@ -60,7 +60,7 @@ fn half_at<'a>(
     k: u32,
 ) -> bool
     requires { Whole pack.now }
-    ensures { result ≡ halfAt (identityText batch.now house.now) pack.now route half k }
+    ensures { result ≡ half_at (identity_text batch.now house.now) pack.now route half k }
 {
     if !records::is_of(pack, RouteImage::TABLE, k) {
         return false;
@@ -83,7 +83,7 @@ fn count_halves<'a>(
     half: Half,
 ) -> u32
     requires { Whole pack.now }
-    ensures { result ≡ halves (identityText batch.now house.now) pack.now route half }
+    ensures { result ≡ halves (identity_text batch.now house.now) pack.now route half }
 {
     let records = records::records_of(pack);
     let mut found = 0;
@@ -101,7 +101,7 @@ fn count_halves<'a>(
 // One half in, one half out, of one domain and one delay.
 fn check_pair<'a>(pack: &'a [u8], batch: &'a [u8], house: &'a [u8], route: RouteImage) -> Outcome
     requires { Whole pack.now }
-    ensures { Decides (pairChecks (identityText batch.now house.now) pack.now route) result }
+    ensures { Decides (pair_checks (identity_text batch.now house.now) pack.now route) result }
 {
     let boundary = route.boundary;
     if 1 < count_halves(pack, batch, house, route, Half::Inbound) {
@@ -134,7 +134,7 @@ fn check_pair<'a>(pack: &'a [u8], batch: &'a [u8], house: &'a [u8], route: Route
 // The checks of record n.
 fn check_record<'a>(pack: &'a [u8], batch: &'a [u8], house: &'a [u8], n: u32) -> Outcome
     requires { Whole pack.now }
-    ensures { Decides (routeRecordChecks (identityText batch.now house.now) pack.now n) result }
+    ensures { Decides (route_record_checks (identity_text batch.now house.now) pack.now n) result }
 {
     if !records::is_of(pack, RouteImage::TABLE, n) {
         return Outcome::Passed;
@@ -145,7 +145,7 @@ fn check_record<'a>(pack: &'a [u8], batch: &'a [u8], house: &'a [u8], n: u32) ->
 // Every route of the pack, in the order of the records.
 fn check_each<'a>(pack: &'a [u8], batch: &'a [u8], house: &'a [u8]) -> Outcome
     requires { Whole pack.now }
-    ensures { Decides (run (routeRecordChecks (identityText batch.now house.now) pack.now) 0 (recordsOf pack.now)) result }
+    ensures { Decides (run (route_record_checks (identity_text batch.now house.now) pack.now) 0 (records_of pack.now)) result }
 {
     let records = records::records_of(pack);
     let mut n = 0;
@@ -166,7 +166,7 @@ pub fn validate_federate_route_pairs<'a>(
     house: &'a [u8],
 ) -> Outcome
     requires { Whole pack.now }
-    ensures { Decides (run (routeRecordChecks (identityText batch.now house.now) pack.now) 0 (recordsOf pack.now)) result }
+    ensures { Decides (run (route_record_checks (identity_text batch.now house.now) pack.now) 0 (records_of pack.now)) result }
 {
     let found = records::count_of(pack, RouteImage::TABLE);
     if found == 0 {

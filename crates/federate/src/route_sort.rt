@@ -1,8 +1,8 @@
 // A merge sort of record numbers by the texts of their boundaries.
 ghost use Rattle.std.specs.Prelude.{◌≡◌, ◌+◌, ◌<◌, ◌≤◌, length, take, drop};
-ghost use Rattle.identity.specs.Text.{identityText};
+ghost use Rattle.identity.specs.Text.{identity_text};
 ghost use Rattle.identity.specs.Order.{compared};
-ghost use Rattle.federate.specs.RouteOrder.{boundaryAt, before, Ordered, Merged, Sorted, Picks};
+ghost use Rattle.federate.specs.RouteOrder.{boundary_at, before, Ordered, Merged, Sorted, Picks};
 ghost use Rattle.schema.specs.Rows.{Whole};
 
 use identity::ByteOrder;
@@ -11,7 +11,7 @@ use schema::parts;
 // The order of the boundaries of records a and b.
 pub fn order_of<'a>(pack: &'a [u8], batch: &'a [u8], house: &'a [u8], a: u32, b: u32) -> ByteOrder
     requires { Whole pack.now }
-    ensures { result ≡ compared (boundaryAt (identityText batch.now house.now) pack.now a) (boundaryAt (identityText batch.now house.now) pack.now b) }
+    ensures { result ≡ compared (boundary_at (identity_text batch.now house.now) pack.now a) (boundary_at (identity_text batch.now house.now) pack.now b) }
 {
     let one = parts::route_boundary_at(pack, a as usize);
     let other = parts::route_boundary_at(pack, b as usize);
@@ -21,7 +21,7 @@ pub fn order_of<'a>(pack: &'a [u8], batch: &'a [u8], house: &'a [u8], a: u32, b:
 // Whether a comes before b, or is it: by its boundary, then by its number.
 fn is_before<'a>(pack: &'a [u8], batch: &'a [u8], house: &'a [u8], a: u32, b: u32) -> bool
     requires { Whole pack.now }
-    ensures { result ≡ before (boundaryAt (identityText batch.now house.now) pack.now) a b }
+    ensures { result ≡ before (boundary_at (identity_text batch.now house.now) pack.now) a b }
 {
     let order = order_of(pack, batch, house, a, b);
     match order {
@@ -42,7 +42,7 @@ fn picks_left<'a>(
     j: usize,
 ) -> bool
     requires { (i + j < length left.now + length right.now) × Whole pack.now }
-    ensures { Picks (before (boundaryAt (identityText batch.now house.now) pack.now)) left.now right.now i j result }
+    ensures { Picks (before (boundary_at (identity_text batch.now house.now) pack.now)) left.now right.now i j result }
 {
     if i >= left.len() {
         return false;
@@ -61,8 +61,8 @@ fn merge<'a>(
     right: &[u32],
     out: &mut [u32],
 )
-    requires { (length left.now + length right.now ≡ length out.old) × Ordered (before (boundaryAt (identityText batch.now house.now) pack.now)) left.now × Ordered (before (boundaryAt (identityText batch.now house.now) pack.now)) right.now × Whole pack.now }
-    ensures { Merged (before (boundaryAt (identityText batch.now house.now) pack.now)) left.now right.now out.new }
+    requires { (length left.now + length right.now ≡ length out.old) × Ordered (before (boundary_at (identity_text batch.now house.now) pack.now)) left.now × Ordered (before (boundary_at (identity_text batch.now house.now) pack.now)) right.now × Whole pack.now }
+    ensures { Merged (before (boundary_at (identity_text batch.now house.now) pack.now)) left.now right.now out.new }
 {
     let mut i = 0;
     let mut j = 0;
@@ -99,8 +99,8 @@ fn merge_halves<'a>(
     mid: usize,
     out: &mut [u32],
 )
-    requires { (length rows.now ≡ length out.old) × (mid ≤ length rows.now) × Ordered (before (boundaryAt (identityText batch.now house.now) pack.now)) (take mid rows.now) × Ordered (before (boundaryAt (identityText batch.now house.now) pack.now)) (drop mid rows.now) × Whole pack.now }
-    ensures { Sorted (before (boundaryAt (identityText batch.now house.now) pack.now)) rows.now out.new }
+    requires { (length rows.now ≡ length out.old) × (mid ≤ length rows.now) × Ordered (before (boundary_at (identity_text batch.now house.now) pack.now)) (take mid rows.now) × Ordered (before (boundary_at (identity_text batch.now house.now) pack.now)) (drop mid rows.now) × Whole pack.now }
+    ensures { Sorted (before (boundary_at (identity_text batch.now house.now) pack.now)) rows.now out.new }
 {
     merge(pack, batch, house, &rows[..mid], &rows[mid..], out);
 }
@@ -114,8 +114,8 @@ fn join<'a>(
     spare: &mut [u32],
     mid: usize,
 )
-    requires { (length rows.old ≤ length spare.old) × (0 < mid) × (mid < length rows.old) × Ordered (before (boundaryAt (identityText batch.now house.now) pack.now)) (take mid rows.old) × Ordered (before (boundaryAt (identityText batch.now house.now) pack.now)) (drop mid rows.old) × Whole pack.now }
-    ensures { Sorted (before (boundaryAt (identityText batch.now house.now) pack.now)) rows.old rows.new }
+    requires { (length rows.old ≤ length spare.old) × (0 < mid) × (mid < length rows.old) × Ordered (before (boundary_at (identity_text batch.now house.now) pack.now)) (take mid rows.old) × Ordered (before (boundary_at (identity_text batch.now house.now) pack.now)) (drop mid rows.old) × Whole pack.now }
+    ensures { Sorted (before (boundary_at (identity_text batch.now house.now) pack.now)) rows.old rows.new }
 {
     if is_before(pack, batch, house, rows[mid - 1], rows[mid]) {
         return;
@@ -133,7 +133,7 @@ pub fn sort<'a>(
     spare: &mut [u32],
 )
     requires { (length rows.old ≤ length spare.old) × Whole pack.now }
-    ensures { Sorted (before (boundaryAt (identityText batch.now house.now) pack.now)) rows.old rows.new }
+    ensures { Sorted (before (boundary_at (identity_text batch.now house.now) pack.now)) rows.old rows.new }
 {
     let n = rows.len();
     if n < 2 {

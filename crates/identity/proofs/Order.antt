@@ -10,8 +10,8 @@ use lib.ListN.{length, get_or, drop_of_length-le}
 use lib.Seq.{drop-cons}
 use borrow.Author.Tests.{ltb-false, lt-ltb, le-ltb, eqb-true}
 use Rattle.identity.specs.declared.ByteOrder.TheVariants.{Less, Equal, Greater}
-use Rattle.identity.specs.Order.{compared, isGreater}
-use Rattle.identity.specs.Scan.{every, sameAt, Tied, number, Leading}
+use Rattle.identity.specs.Order.{compared, is_greater}
+use Rattle.identity.specs.Scan.{every, same_at, Tied, number, Leading}
 use Rattle.identity.proofs.Tests.{cases, below_or_not}
 use Rattle.identity.proofs.Steps.{along}
 
@@ -43,9 +43,9 @@ unfolding compared
 tied-step {a} {b} {i} t l h y x =
     record { same = t.same ∙ rw (add-one, drop-cons a i 0, drop-cons b i 0, le-ltb _ _ y, le-ltb _ _ x) }
 
-pub tied-block : {a b : List ℕ} {i : ℕ} (x : Bool) → Tied a b i → x ≡ every (sameAt a b) i 16 → x ≡ true → i + 16 ≤ length a → i + 16 ≤ length b → Tied a b (i + 16)
+pub tied-block : {a b : List ℕ} {i : ℕ} (x : Bool) → Tied a b i → x ≡ every (same_at a b) i 16 → x ≡ true → i + 16 ≤ length a → i + 16 ≤ length b → Tied a b (i + 16)
 tied-block {a} {b} {i} x t e f l h =
-    along (sameAt a b) (Tied a b) i 16 (λ j _ m q p.
+    along (same_at a b) (Tied a b) i 16 (λ j _ m q p.
     let n = eqb-true (get_or a j 0) (get_or b j 0) q in
     tied-step p (omega arith) (omega arith) (omega arith) (omega arith)) (sym e ∙ f) t
 
@@ -82,11 +82,11 @@ module _ {a b : List ℕ} {k m n : ℕ} (p : Leading a k m) (q : Leading b k n) 
   pub lead-more : n < m → Greater ≡ compared a b
   lead-more = lead.more
 
-  pub lead-above : (m ≡ n → ⊥) → ltb n m ≡ isGreater (compared a b)
+  pub lead-above : (m ≡ n → ⊥) → ltb n m ≡ is_greater (compared a b)
   lead-above d =
       below_or_not n m
-      (λ h. lt-ltb n m h ∙ ap isGreater (lead-more h))
-      (λ h. le-ltb n m h ∙ ap isGreater (lead-less (other d h)))
+      (λ h. lt-ltb n m h ∙ ap is_greater (lead-more h))
+      (λ h. le-ltb n m h ∙ ap is_greater (lead-less (other d h)))
     where
       other : (m ≡ n → ⊥) → m ≤ n → m < n
       other d h = omega arith

@@ -10,8 +10,8 @@ use lib.ListN.{length, get_or, drop, length-drop}
 use borrow.Author.Tests.{ltb-true, ltb-false, leb-true, lt-ltb, le-ltb, le-leb}
 use Rattle.identity.specs.declared.decode.Decoded.{Decoded}
 use Rattle.identity.specs.declared.decode.Decoded.TheVariants.{Scalar, Malformed}
-use Rattle.identity.specs.Utf8.{allowed, allAllowed, encode, encodeAll, follows, valueOfTwo, valueOfThree, valueOfFour, scalarAt}
-use Rattle.identity.specs.Utf8.{Scalars, some, none, before, decode, decodeAfter, is_some}
+use Rattle.identity.specs.Utf8.{allowed, all_allowed, encode, encode_all, follows, value_of_two, value_of_three, value_of_four, scalar_at}
+use Rattle.identity.specs.Utf8.{Scalars, some, none, before, decode, decode_after, is_some}
 use Rattle.identity.specs.Rfc3629.{Encodes, Utf8IsEncoding, DecodeInvertsEncode}
 use Rattle.identity.proofs.Tests.{cases, both}
 use Rattle.identity.proofs.Scalar.{one_byte, by_two, by_three, by-four, checked-scalar, Follows, is-follow, no_byte}
@@ -27,18 +27,18 @@ unfolding allowed
 allowed-low v h = le-leb v 0x10FFFF (omega arith)
 
 -- the bytes of each form give its scalar
-is_one : (a : ℕ) (t : List ℕ) → a < 0x80 → scalarAt (a ∷ t) 0 ≡ Scalar a 1
+is_one : (a : ℕ) (t : List ℕ) → a < 0x80 → scalar_at (a ∷ t) 0 ≡ Scalar a 1
 is_one a t h = sym (one_byte (a ∷ t) 0 a h refl)
 
-is-two : (a b : ℕ) (t : List ℕ) → 0xC2 ≤ a → a < 0xE0 → Follows b → allowed (valueOfTwo a b) ≡ true → scalarAt (a ∷ b ∷ t) 0 ≡ Scalar (valueOfTwo a b) 2
+is-two : (a b : ℕ) (t : List ℕ) → 0xC2 ≤ a → a < 0xE0 → Follows b → allowed (value_of_two a b) ≡ true → scalar_at (a ∷ b ∷ t) 0 ≡ Scalar (value_of_two a b) 2
 is-two a b t l h f n =
     sym (by_two (a ∷ b ∷ t) 0 b _ l h refl (checked-scalar _ _ _ _ (is-follow b f) (omega arith) n))
 
-is-three : (a b c : ℕ) (t : List ℕ) → 0xE0 ≤ a → a < 0xF0 → Follows b → Follows c → 0x800 ≤ valueOfThree a b c → allowed (valueOfThree a b c) ≡ true → scalarAt (a ∷ b ∷ c ∷ t) 0 ≡ Scalar (valueOfThree a b c) 3
+is-three : (a b c : ℕ) (t : List ℕ) → 0xE0 ≤ a → a < 0xF0 → Follows b → Follows c → 0x800 ≤ value_of_three a b c → allowed (value_of_three a b c) ≡ true → scalar_at (a ∷ b ∷ c ∷ t) 0 ≡ Scalar (value_of_three a b c) 3
 is-three a b c t l h f g m n =
     sym (by_three (a ∷ b ∷ c ∷ t) 0 b c _ l h refl refl (checked-scalar (follows b && follows c) _ _ _ (rw (is-follow b f) (is-follow c g)) m n))
 
-is-four : (a b c d : ℕ) (t : List ℕ) → 0xF0 ≤ a → a < 0xF5 → Follows b → Follows c → Follows d → 0x10000 ≤ valueOfFour a b c d → allowed (valueOfFour a b c d) ≡ true → scalarAt (a ∷ b ∷ c ∷ d ∷ t) 0 ≡ Scalar (valueOfFour a b c d) 4
+is-four : (a b c d : ℕ) (t : List ℕ) → 0xF0 ≤ a → a < 0xF5 → Follows b → Follows c → Follows d → 0x10000 ≤ value_of_four a b c d → allowed (value_of_four a b c d) ≡ true → scalar_at (a ∷ b ∷ c ∷ d ∷ t) 0 ≡ Scalar (value_of_four a b c d) 4
 is-four a b c d t l h f g k m n =
     sym (by-four (a ∷ b ∷ c ∷ d ∷ t) 0 b c d _ l h refl refl refl (checked-scalar (follows b && (follows c && follows d)) _ _ _ (rw (is-follow b f, is-follow c g) (is-follow d k)) m n))
 
@@ -61,7 +61,7 @@ joined : (v q t x y z : ℕ) → q ≡ t * 64 + x → v ≡ q * 4096 + y * 64 + 
 joined v q t x y z e f = omega arith
 
 -- the value of a scalar's four bytes, in the steps that omega takes
-value-four : (v : ℕ) → v ≤ 0x10FFFF → valueOfFour (0xF0 + v / 262144) (0x80 + v / 4096 % 64) (0x80 + v / 64 % 64) (0x80 + v % 64) ≡ v
+value-four : (v : ℕ) → v ≤ 0x10FFFF → value_of_four (0xF0 + v / 262144) (0x80 + v / 4096 % 64) (0x80 + v / 64 % 64) (0x80 + v % 64) ≡ v
 value-four v m =
     rw (first-bits v m, low_bits (v / 4096), low_bits (v / 64), low_bits v)
     (joined v (v / 4096) (v / 262144) (v / 4096 % 64) (v / 64 % 64) (v % 64) (high-two v) (low-two v))
@@ -77,58 +77,58 @@ decode-one v t m =
     (λ t2.
     let l = ltb-false v 0x80 f1 in
     let h = ltb-true v 0x800 t2 in
-    let e : valueOfTwo (0xC0 + v / 64) (0x80 + v % 64) ≡ v = omega arith in
+    let e : value_of_two (0xC0 + v / 64) (0x80 + v % 64) ≡ v = omega arith in
     rw t2 (decode-at ((0xC0 + v / 64) ∷ (0x80 + v % 64) ∷ t) 0 (omega arith) (is-two _ _ t (omega arith) (omega arith) (following-byte v) (rw e m) ∙ ap (λ (n : ℕ). Scalar n 2) e)))
     (λ f2. rw f2
     (cases (ltb v 0x10000)
     (λ t3.
     let l = ltb-false v 0x800 f2 in
     let h = ltb-true v 0x10000 t3 in
-    let e : valueOfThree (0xE0 + v / 4096) (0x80 + v / 64 % 64) (0x80 + v % 64) ≡ v = omega arith in
+    let e : value_of_three (0xE0 + v / 4096) (0x80 + v / 64 % 64) (0x80 + v % 64) ≡ v = omega arith in
     rw t3 (decode-at ((0xE0 + v / 4096) ∷ (0x80 + v / 64 % 64) ∷ (0x80 + v % 64) ∷ t) 0 (omega arith) (is-three _ _ _ t (omega arith) (omega arith) (following-byte (v / 64)) (following-byte v) (rw e l) (rw e m) ∙ ap (λ (n : ℕ). Scalar n 3) e)))
     (λ f3.
     let l = ltb-false v 0x10000 f3 in
-    let e : valueOfFour (0xF0 + v / 262144) (0x80 + v / 4096 % 64) (0x80 + v / 64 % 64) (0x80 + v % 64) ≡ v = value-four v (allowed-max v m) in
+    let e : value_of_four (0xF0 + v / 262144) (0x80 + v / 4096 % 64) (0x80 + v / 64 % 64) (0x80 + v % 64) ≡ v = value-four v (allowed-max v m) in
     let k = allowed-max v m in
     rw f3 (decode-at ((0xF0 + v / 262144) ∷ (0x80 + v / 4096 % 64) ∷ (0x80 + v / 64 % 64) ∷ (0x80 + v % 64) ∷ t) 0 (omega arith) (is-four _ _ _ _ t (omega arith) (omega arith) (following-byte (v / 4096)) (following-byte (v / 64)) (following-byte v) (rw e l) (rw e m) ∙ ap (λ (n : ℕ). Scalar n 4) e)))))))
 
-decode-encode : (vs : List ℕ) → allAllowed vs ≡ true → decode (encodeAll vs) ≡ some vs
-unfolding encodeAll decodeAfter
+decode-encode : (vs : List ℕ) → all_allowed vs ≡ true → decode (encode_all vs) ≡ some vs
+unfolding encode_all decode_after
 decode-encode [] e = refl
 decode-encode (v ∷ vs) e =
-    let h = both (allowed v) (allAllowed vs) e in
-    decode-one v (encodeAll vs) h.0 ∙ ap (before v) (decode-encode vs h.1)
+    let h = both (allowed v) (all_allowed vs) e in
+    decode-one v (encode_all vs) h.0 ∙ ap (before v) (decode-encode vs h.1)
 
 -- a scalar found at the front: the text starts with its bytes, and it is allowed
 record Front (s : List ℕ) (v w : ℕ) : Type 0 where
   pub bytes : s ≡ encode v ++ drop w s
-  pub isAllowed : allowed v ≡ true
+  pub is_allowed : allowed v ≡ true
 
 front-one : (a : ℕ) (t : List ℕ) → a ≤ 0x7F → Front (a ∷ t) a 1
 unfolding encode
-front-one a t h = record { bytes = rw (lt-ltb a 0x80 (omega arith)); isAllowed = allowed-low a (omega arith) }
+front-one a t h = record { bytes = rw (lt-ltb a 0x80 (omega arith)); is_allowed = allowed-low a (omega arith) }
 
-front-two : (a b : ℕ) (t : List ℕ) → 0xC2 ≤ a → a ≤ 0xDF → Follows b → allowed (valueOfTwo a b) ≡ true → Front (a ∷ b ∷ t) (valueOfTwo a b) 2
+front-two : (a b : ℕ) (t : List ℕ) → 0xC2 ≤ a → a ≤ 0xDF → Follows b → allowed (value_of_two a b) ≡ true → Front (a ∷ b ∷ t) (value_of_two a b) 2
 unfolding encode
 front-two a b t l h f n =
-    let v = valueOfTwo a b in
+    let v = value_of_two a b in
     let x : a ≡ 0xC0 + v / 64 = omega (arith, f.low, f.high) in
     let y : b ≡ 0x80 + v % 64 = omega (arith, f.low, f.high) in
     record {
       bytes = simp (le-ltb v 0x80 (omega arith), lt-ltb v 0x800 (omega arith)) (cc);
-      isAllowed = n;
+      is_allowed = n;
     }
 
-front-three : (a b c : ℕ) (t : List ℕ) → 0xE0 ≤ a → a ≤ 0xEF → Follows b → Follows c → 0x800 ≤ valueOfThree a b c → allowed (valueOfThree a b c) ≡ true → Front (a ∷ b ∷ c ∷ t) (valueOfThree a b c) 3
+front-three : (a b c : ℕ) (t : List ℕ) → 0xE0 ≤ a → a ≤ 0xEF → Follows b → Follows c → 0x800 ≤ value_of_three a b c → allowed (value_of_three a b c) ≡ true → Front (a ∷ b ∷ c ∷ t) (value_of_three a b c) 3
 unfolding encode
 front-three a b c t l h f g m n =
-    let v = valueOfThree a b c in
+    let v = value_of_three a b c in
     let x : a ≡ 0xE0 + v / 4096 = omega (arith, f.low, f.high, g.low, g.high) in
     let y : b ≡ 0x80 + v / 64 % 64 = omega (arith, f.low, f.high, g.low, g.high) in
     let z : c ≡ 0x80 + v % 64 = omega (arith, f.low, f.high, g.low, g.high) in
     record {
       bytes = simp (le-ltb v 0x80 (omega arith), le-ltb v 0x800 m, lt-ltb v 0x10000 (omega arith)) (cc);
-      isAllowed = n;
+      is_allowed = n;
     }
 
 -- the digits of a sum, base 64
@@ -148,10 +148,10 @@ module _ (t x y z : ℕ) (hx : x < 64) (hy : y < 64) (hz : z < 64) where
 byte_of : (b : ℕ) → Follows b → b ≡ 0x80 + b % 64
 byte_of b f = let l = f.low in let h = f.high in omega arith
 
-front-four : (a b c d : ℕ) (t : List ℕ) → 0xF0 ≤ a → a ≤ 0xF4 → Follows b → Follows c → Follows d → 0x10000 ≤ valueOfFour a b c d → allowed (valueOfFour a b c d) ≡ true → Front (a ∷ b ∷ c ∷ d ∷ t) (valueOfFour a b c d) 4
+front-four : (a b c d : ℕ) (t : List ℕ) → 0xF0 ≤ a → a ≤ 0xF4 → Follows b → Follows c → Follows d → 0x10000 ≤ value_of_four a b c d → allowed (value_of_four a b c d) ≡ true → Front (a ∷ b ∷ c ∷ d ∷ t) (value_of_four a b c d) 4
 unfolding encode
 front-four a b c d t l h f g k m n =
-    let v = valueOfFour a b c d in
+    let v = value_of_four a b c d in
     let hb : b % 64 < 64 = omega arith in
     let hc : c % 64 < 64 = omega arith in
     let hd : d % 64 < 64 = omega arith in
@@ -162,7 +162,7 @@ front-four a b c d t l h f g k m n =
     let z : d ≡ 0x80 + v % 64 = byte_of d k ∙ ap (0x80 +◌) (digit-z (a % 8) (b % 64) (c % 64) (d % 64) hb hc hd) in
     record {
       bytes = simp (le-ltb v 0x80 (omega (arith, m)), le-ltb v 0x800 (omega (arith, m)), le-ltb v 0x10000 m) (cc);
-      isAllowed = n;
+      is_allowed = n;
     }
 
 front : (s : List ℕ) {v w : ℕ} → Form (get_or s 0 0) (get_or s 1 0) (get_or s 2 0) (get_or s 3 0) (Scalar v w) → 0 < length s → Front s v w
@@ -190,14 +190,14 @@ abbrev Shorter : List ℕ → Type 0
 Shorter s = (u us : List ℕ) → length u < length s → decode u ≡ some us → Encodes u us
 
 joins : (a : ℕ) (t : List ℕ) {vs : List ℕ} (v w : ℕ) → Front (a ∷ t) v w → 1 ≤ w → Rest v (decode (drop w (a ∷ t))) vs → Shorter (a ∷ t) → Encodes (a ∷ t) vs
-unfolding encodeAll
+unfolding encode_all
 joins a t v w f l (rest us e q) ih =
     let i = ih (drop w (a ∷ t)) us (rw length-drop (omega arith)) e in
     subst (Encodes (a ∷ t)) (sym q)
-    (record { bytes = f.bytes ∙ ap (encode v ++◌) i.bytes; scalars = rw f.isAllowed i.scalars })
+    (record { bytes = f.bytes ∙ ap (encode v ++◌) i.bytes; scalars = rw f.is_allowed i.scalars })
 
 -- a text is the encodings of its scalars, if the shorter ones are
-step : (a : ℕ) (t vs : List ℕ) (x : Decoded) → scalarAt (a ∷ t) 0 ≡ x → decode (a ∷ t) ≡ some vs → Shorter (a ∷ t) → Encodes (a ∷ t) vs
+step : (a : ℕ) (t vs : List ℕ) (x : Decoded) → scalar_at (a ∷ t) 0 ≡ x → decode (a ∷ t) ≡ some vs → Shorter (a ∷ t) → Encodes (a ∷ t) vs
 step a t vs Malformed e q ih =
     let n = decode-malformed (a ∷ t) 0 (omega arith) e in
     let z : ◌≡◌ {A = ℕ} 0 1 = cc in
@@ -208,11 +208,11 @@ step a t vs (Scalar v w) e q ih =
     joins a t v w f (width-at (a ∷ t) 0 e).0 (rest_of v (decode (drop w (a ∷ t))) vs (sym d ∙ q)) ih
 
 by-list : (s vs : List ℕ) → decode s ≡ some vs → Shorter s → Encodes s vs
-unfolding decodeAfter encodeAll
+unfolding decode_after encode_all
 by-list [] vs e ih =
     let z : [] ≡ vs = cc in
     subst (Encodes []) z (record { bytes = refl; scalars = refl })
-by-list (a ∷ t) vs e ih = step a t vs (scalarAt (a ∷ t) 0) refl e ih
+by-list (a ∷ t) vs e ih = step a t vs (scalar_at (a ∷ t) 0) refl e ih
 
 encodes-by : (n : ℕ) (s vs : List ℕ) → length s ≤ n → decode s ≡ some vs → Encodes s vs
 encodes-by zero s vs h e = by-list s vs e (λ u us l q. absurd (omega arith))

@@ -15,19 +15,19 @@ use lib.Seq.{drop-cons, drop-drop, get_or-drop}
 use Rattle.identity.specs.Within.{within}
 use Rattle.identity.specs.declared.decode.Decoded.{Decoded}
 use Rattle.identity.specs.declared.decode.Decoded.TheVariants.{Scalar, Malformed}
-use Rattle.identity.specs.Utf8.{allowed, follows, checked, valueOfTwo, valueOfThree, valueOfFour, twoBytes, threeBytes, fourBytes, scalarOf, scalarAt}
+use Rattle.identity.specs.Utf8.{allowed, follows, checked, value_of_two, value_of_three, value_of_four, two_bytes, three_bytes, four_bytes, scalar_of, scalar_at}
 use Rattle.identity.specs.Scan.{width_of}
-use Rattle.identity.specs.Utf8.{some, none, before, inFront, decodeAfter, decode}
+use Rattle.identity.specs.Utf8.{some, none, before, in_front, decode_after, decode}
 use Rattle.identity.proofs.Tests.{cases, both, within-true, within_in, within-below, within-above}
 
 -- the scalar at a place, by its first byte
 module _ (s : List ℕ) (i : ℕ) where
-  pub one_byte : (v : ℕ) → get_or s i 0 < 0x80 → v ≡ get_or s i 0 → Scalar v 1 ≡ scalarAt s i
-  unfolding scalarAt
+  pub one_byte : (v : ℕ) → get_or s i 0 < 0x80 → v ≡ get_or s i 0 → Scalar v 1 ≡ scalar_at s i
+  unfolding scalar_at
   one_byte v h e = rw (e, within_in 0x00 0x7F (get_or s i 0) (omega arith) (omega arith))
 
-  pub no-first : 0x80 ≤ get_or s i 0 → get_or s i 0 < 0xC2 → Malformed ≡ scalarAt s i
-  unfolding scalarAt
+  pub no-first : 0x80 ≤ get_or s i 0 → get_or s i 0 < 0xC2 → Malformed ≡ scalar_at s i
+  unfolding scalar_at
   no-first l h =
       rw (
         within-above 0x00 0x7F (get_or s i 0) (omega arith),
@@ -36,8 +36,8 @@ module _ (s : List ℕ) (i : ℕ) where
         within-below 0xF0 0xF4 (get_or s i 0) (omega arith),
       )
 
-  pub by_two : (b : ℕ) (x : Decoded) → 0xC2 ≤ get_or s i 0 → get_or s i 0 < 0xE0 → b ≡ get_or s (i + 1) 0 → x ≡ twoBytes (get_or s i 0) b → x ≡ scalarAt s i
-  unfolding scalarAt
+  pub by_two : (b : ℕ) (x : Decoded) → 0xC2 ≤ get_or s i 0 → get_or s i 0 < 0xE0 → b ≡ get_or s (i + 1) 0 → x ≡ two_bytes (get_or s i 0) b → x ≡ scalar_at s i
+  unfolding scalar_at
   by_two b x l h eb e =
       rw (
         within-above 0x00 0x7F (get_or s i 0) (omega arith),
@@ -46,8 +46,8 @@ module _ (s : List ℕ) (i : ℕ) where
       )
       e
 
-  pub by_three : (b c : ℕ) (x : Decoded) → 0xE0 ≤ get_or s i 0 → get_or s i 0 < 0xF0 → b ≡ get_or s (i + 1) 0 → c ≡ get_or s (i + 2) 0 → x ≡ threeBytes (get_or s i 0) b c → x ≡ scalarAt s i
-  unfolding scalarAt
+  pub by_three : (b c : ℕ) (x : Decoded) → 0xE0 ≤ get_or s i 0 → get_or s i 0 < 0xF0 → b ≡ get_or s (i + 1) 0 → c ≡ get_or s (i + 2) 0 → x ≡ three_bytes (get_or s i 0) b c → x ≡ scalar_at s i
+  unfolding scalar_at
   by_three b c x l h eb ec e =
       rw (
         within-above 0x00 0x7F (get_or s i 0) (omega arith),
@@ -58,8 +58,8 @@ module _ (s : List ℕ) (i : ℕ) where
       )
       e
 
-  pub by-four : (b c d : ℕ) (x : Decoded) → 0xF0 ≤ get_or s i 0 → get_or s i 0 < 0xF5 → b ≡ get_or s (i + 1) 0 → c ≡ get_or s (i + 2) 0 → d ≡ get_or s (i + 3) 0 → x ≡ fourBytes (get_or s i 0) b c d → x ≡ scalarAt s i
-  unfolding scalarAt
+  pub by-four : (b c d : ℕ) (x : Decoded) → 0xF0 ≤ get_or s i 0 → get_or s i 0 < 0xF5 → b ≡ get_or s (i + 1) 0 → c ≡ get_or s (i + 2) 0 → d ≡ get_or s (i + 3) 0 → x ≡ four_bytes (get_or s i 0) b c d → x ≡ scalar_at s i
+  unfolding scalar_at
   by-four b c d x l h eb ec ed e =
       rw (
         within-above 0x00 0x7F (get_or s i 0) (omega arith),
@@ -72,8 +72,8 @@ module _ (s : List ℕ) (i : ℕ) where
       )
       e
 
-  pub past_first : 0xF5 ≤ get_or s i 0 → Malformed ≡ scalarAt s i
-  unfolding scalarAt
+  pub past_first : 0xF5 ≤ get_or s i 0 → Malformed ≡ scalar_at s i
+  unfolding scalar_at
   past_first l =
       rw (
         within-above 0x00 0x7F (get_or s i 0) (omega arith),
@@ -83,26 +83,26 @@ module _ (s : List ℕ) (i : ℕ) where
       )
 
   -- its width, from what `scalar_width` finds of the value v and the following bytes
-  pub wide-one : get_or s i 0 < 0x80 → 1 ≡ width_of (scalarAt s i)
+  pub wide-one : get_or s i 0 < 0x80 → 1 ≡ width_of (scalar_at s i)
   unfolding width_of
   wide-one h = ap width_of (one_byte (get_or s i 0) h refl)
 
-  pub wide-no-first : 0x80 ≤ get_or s i 0 → get_or s i 0 < 0xC2 → 0 ≡ width_of (scalarAt s i)
+  pub wide-no-first : 0x80 ≤ get_or s i 0 → get_or s i 0 < 0xC2 → 0 ≡ width_of (scalar_at s i)
   unfolding width_of
   wide-no-first l h = ap width_of (no-first l h)
 
-  pub wide-two : (b v r : ℕ) (f : Bool) → 0xC2 ≤ get_or s i 0 → get_or s i 0 < 0xE0 → b ≡ get_or s (i + 1) 0 → f ≡ follows b → v ≡ valueOfTwo (get_or s i 0) b → r ≡ width_of (checked f 0x80 v 2) → r ≡ width_of (scalarAt s i)
-  wide-two b v r f l h eb ef ev e = e ∙ rw (ef, ev) (ap width_of (by_two b (twoBytes (get_or s i 0) b) l h eb refl))
+  pub wide-two : (b v r : ℕ) (f : Bool) → 0xC2 ≤ get_or s i 0 → get_or s i 0 < 0xE0 → b ≡ get_or s (i + 1) 0 → f ≡ follows b → v ≡ value_of_two (get_or s i 0) b → r ≡ width_of (checked f 0x80 v 2) → r ≡ width_of (scalar_at s i)
+  wide-two b v r f l h eb ef ev e = e ∙ rw (ef, ev) (ap width_of (by_two b (two_bytes (get_or s i 0) b) l h eb refl))
 
-  pub wide-three : (b c v r : ℕ) (f g : Bool) → 0xE0 ≤ get_or s i 0 → get_or s i 0 < 0xF0 → b ≡ get_or s (i + 1) 0 → c ≡ get_or s (i + 2) 0 → f ≡ follows b → g ≡ follows c → v ≡ valueOfThree (get_or s i 0) b c → r ≡ width_of (checked (f && g) 0x800 v 3) → r ≡ width_of (scalarAt s i)
+  pub wide-three : (b c v r : ℕ) (f g : Bool) → 0xE0 ≤ get_or s i 0 → get_or s i 0 < 0xF0 → b ≡ get_or s (i + 1) 0 → c ≡ get_or s (i + 2) 0 → f ≡ follows b → g ≡ follows c → v ≡ value_of_three (get_or s i 0) b c → r ≡ width_of (checked (f && g) 0x800 v 3) → r ≡ width_of (scalar_at s i)
   wide-three b c v r f g l h eb ec ef eg ev e =
-      e ∙ rw (ef, eg, ev) (ap width_of (by_three b c (threeBytes (get_or s i 0) b c) l h eb ec refl))
+      e ∙ rw (ef, eg, ev) (ap width_of (by_three b c (three_bytes (get_or s i 0) b c) l h eb ec refl))
 
-  pub wide-four : (b c d v r : ℕ) (f g k : Bool) → 0xF0 ≤ get_or s i 0 → get_or s i 0 < 0xF5 → b ≡ get_or s (i + 1) 0 → c ≡ get_or s (i + 2) 0 → d ≡ get_or s (i + 3) 0 → f ≡ follows b → g ≡ follows c → k ≡ follows d → v ≡ valueOfFour (get_or s i 0) b c d → r ≡ width_of (checked (f && (g && k)) 0x10000 v 4) → r ≡ width_of (scalarAt s i)
+  pub wide-four : (b c d v r : ℕ) (f g k : Bool) → 0xF0 ≤ get_or s i 0 → get_or s i 0 < 0xF5 → b ≡ get_or s (i + 1) 0 → c ≡ get_or s (i + 2) 0 → d ≡ get_or s (i + 3) 0 → f ≡ follows b → g ≡ follows c → k ≡ follows d → v ≡ value_of_four (get_or s i 0) b c d → r ≡ width_of (checked (f && (g && k)) 0x10000 v 4) → r ≡ width_of (scalar_at s i)
   wide-four b c d v r f g k l h eb ec ed ef eg ek ev e =
-      e ∙ rw (ef, eg, ek, ev) (ap width_of (by-four b c d (fourBytes (get_or s i 0) b c d) l h eb ec ed refl))
+      e ∙ rw (ef, eg, ek, ev) (ap width_of (by-four b c d (four_bytes (get_or s i 0) b c d) l h eb ec ed refl))
 
-  pub wide-past-first : 0xF5 ≤ get_or s i 0 → 0 ≡ width_of (scalarAt s i)
+  pub wide-past-first : 0xF5 ≤ get_or s i 0 → 0 ≡ width_of (scalar_at s i)
   unfolding width_of
   wide-past-first l = ap width_of (past_first l)
 
@@ -110,7 +110,7 @@ pub ruleset width-laws = (wide-one, wide-no-first, wide-two, wide-three, wide-fo
 
 pub ruleset scalar-laws = (one_byte, no-first, by_two, by_three, by-four, past_first)
 
-pub ascii-scalar : (s : List ℕ) (i : ℕ) → get_or s i 0 < 0x80 → scalarAt s i ≡ Scalar (get_or s i 0) 1
+pub ascii-scalar : (s : List ℕ) (i : ℕ) → get_or s i 0 < 0x80 → scalar_at s i ≡ Scalar (get_or s i 0) 1
 ascii-scalar s i h = sym (one_byte s i (get_or s i 0) h refl)
 
 pub checked-scalar : (following : Bool) (low v w : ℕ) → following ≡ true → low ≤ v → allowed v ≡ true → Scalar v w ≡ checked following low v w
@@ -129,9 +129,9 @@ is-follow b f = within_in 0x80 0xBF b f.low f.high
 -- what a scalar's bytes are, form by form
 pub data Form (a b c d : ℕ) : Decoded → Type 0 where
   one : a ≤ 0x7F → Form a b c d (Scalar a 1)
-  two : 0xC2 ≤ a → a ≤ 0xDF → Follows b → allowed (valueOfTwo a b) ≡ true → Form a b c d (Scalar (valueOfTwo a b) 2)
-  three : 0xE0 ≤ a → a ≤ 0xEF → Follows b → Follows c → 0x800 ≤ valueOfThree a b c → allowed (valueOfThree a b c) ≡ true → Form a b c d (Scalar (valueOfThree a b c) 3)
-  four : 0xF0 ≤ a → a ≤ 0xF4 → Follows b → Follows c → Follows d → 0x10000 ≤ valueOfFour a b c d → allowed (valueOfFour a b c d) ≡ true → Form a b c d (Scalar (valueOfFour a b c d) 4)
+  two : 0xC2 ≤ a → a ≤ 0xDF → Follows b → allowed (value_of_two a b) ≡ true → Form a b c d (Scalar (value_of_two a b) 2)
+  three : 0xE0 ≤ a → a ≤ 0xEF → Follows b → Follows c → 0x800 ≤ value_of_three a b c → allowed (value_of_three a b c) ≡ true → Form a b c d (Scalar (value_of_three a b c) 3)
+  four : 0xF0 ≤ a → a ≤ 0xF4 → Follows b → Follows c → Follows d → 0x10000 ≤ value_of_four a b c d → allowed (value_of_four a b c d) ≡ true → Form a b c d (Scalar (value_of_four a b c d) 4)
   malformed : Form a b c d Malformed
 
 checked-form : (a b c d : ℕ) (following : Bool) (low v w : ℕ) → (following ≡ true → low ≤ v → allowed v ≡ true → Form a b c d (Scalar v w)) → Form a b c d (checked following low v w)
@@ -143,7 +143,7 @@ checked-form a b c d following low v w f =
     rw t (f h.0 (leb-true low v g.0) g.1))
     (λ e. rw e malformed)
 
-form : (a b c d : ℕ) → Form a b c d (scalarOf a b c d)
+form : (a b c d : ℕ) → Form a b c d (scalar_of a b c d)
 form a b c d =
     cases (within 0x00 0x7F a) (λ t. rw t (one (within-true 0x00 0x7F a t).1))
     (λ f1. rw f1
@@ -168,8 +168,8 @@ form a b c d =
     four h.0 h.1 (follow b g.0) (follow c k.0) (follow d k.1) l m)))
     (λ f4. rw f4 malformed)))))))
 
-pub form-at : (s : List ℕ) (i : ℕ) {x : Decoded} → scalarAt s i ≡ x → Form (get_or s i 0) (get_or s (i + 1) 0) (get_or s (i + 2) 0) (get_or s (i + 3) 0) x
-unfolding scalarAt
+pub form-at : (s : List ℕ) (i : ℕ) {x : Decoded} → scalar_at s i ≡ x → Form (get_or s i 0) (get_or s (i + 1) 0) (get_or s (i + 2) 0) (get_or s (i + 3) 0) x
+unfolding scalar_at
 form-at s i e = subst (Form (get_or s i 0) (get_or s (i + 1) 0) (get_or s (i + 2) 0) (get_or s (i + 3) 0)) e (form _ _ _ _)
 
 -- a scalar takes 1 to 4 bytes
@@ -179,7 +179,7 @@ width (two _ _ _ _) = (omega arith, omega arith)
 width (three _ _ _ _ _ _) = (omega arith, omega arith)
 width (four _ _ _ _ _ _ _) = (omega arith, omega arith)
 
-pub width-at : (s : List ℕ) (i : ℕ) {v w : ℕ} → scalarAt s i ≡ Scalar v w → (1 ≤ w) × (w ≤ 4)
+pub width-at : (s : List ℕ) (i : ℕ) {v w : ℕ} → scalar_at s i ≡ Scalar v w → (1 ≤ w) × (w ≤ 4)
 width-at s i e = width (form-at s i e)
 
 -- a byte past the end is no following byte
@@ -198,39 +198,39 @@ ends s i h (two _ _ f _) = let k = there s (i + 1) f in omega arith
 ends s i h (three _ _ f g _ _) = let k = there s (i + 2) g in omega arith
 ends s i h (four _ _ f g e _ _) = let k = there s (i + 3) e in omega arith
 
-pub ends_at : (s : List ℕ) (i : ℕ) {v w : ℕ} → i < length s → scalarAt s i ≡ Scalar v w → i + w ≤ length s
+pub ends_at : (s : List ℕ) (i : ℕ) {v w : ℕ} → i < length s → scalar_at s i ≡ Scalar v w → i + w ≤ length s
 ends_at s i h e = ends s i h (form-at s i e)
 
 -- the next place, after the scalar that x says stands at i
-pub next_fits : (s : List ℕ) (i : ℕ) (x : Decoded) (v w : ℕ) → x ≡ scalarAt s i → x ≡ Scalar v w → i < length s → length s * 1 < 2 ^ 63 → Fits w64 (i + w)
+pub next_fits : (s : List ℕ) (i : ℕ) (x : Decoded) (v w : ℕ) → x ≡ scalar_at s i → x ≡ Scalar v w → i < length s → length s * 1 < 2 ^ 63 → Fits w64 (i + w)
 next_fits s i x v w e f h l = let n = ends_at s i h (sym e ∙ f) in Fits-le n (record { fits = omega arith })
 
 -- bytes that are passed over are left off
-after-drop : (s : List ℕ) (k : ℕ) → decodeAfter s k ≡ decode (drop k s)
-unfolding decodeAfter
+after-drop : (s : List ℕ) (k : ℕ) → decode_after s k ≡ decode (drop k s)
+unfolding decode_after
 after-drop [] zero = refl
 after-drop [] (suc k) = refl
 after-drop (b ∷ s) zero = refl
 after-drop (b ∷ s) (suc k) = after-drop s k
 
 -- the scalar at i is the one that the rest from i starts with
-scalar-drop : (s : List ℕ) (i : ℕ) → scalarAt (drop i s) 0 ≡ scalarAt s i
-unfolding scalarAt
+scalar-drop : (s : List ℕ) (i : ℕ) → scalar_at (drop i s) 0 ≡ scalar_at s i
+unfolding scalar_at
 scalar-drop s i = simp (get_or-drop, add-zero, zero-add)
 
-by_first : (s : List ℕ) (i : ℕ) → i < length s → decode (drop i s) ≡ inFront (scalarAt s i) (decodeAfter (drop (suc i) s))
-unfolding decodeAfter
+by_first : (s : List ℕ) (i : ℕ) → i < length s → decode (drop i s) ≡ in_front (scalar_at s i) (decode_after (drop (suc i) s))
+unfolding decode_after
 by_first s i h = rw (← scalar-drop s i, drop-cons s i 0)
 
-pub decode-at : (s : List ℕ) (i : ℕ) {v w : ℕ} → i < length s → scalarAt s i ≡ Scalar v w → decode (drop i s) ≡ before v (decode (drop (i + w) s))
+pub decode-at : (s : List ℕ) (i : ℕ) {v w : ℕ} → i < length s → scalar_at s i ≡ Scalar v w → decode (drop i s) ≡ before v (decode (drop (i + w) s))
 decode-at s i {v} {w} h e =
     let l = width-at s i e in
     let k : suc i + (w - 1) ≡ i + w = omega (arith, l.0) in
     by_first s i h ∙ rw (e, after-drop (drop (suc i) s) (w - 1), drop-drop, k)
 
-pub decode-malformed : (s : List ℕ) (i : ℕ) → i < length s → scalarAt s i ≡ Malformed → decode (drop i s) ≡ none
+pub decode-malformed : (s : List ℕ) (i : ℕ) → i < length s → scalar_at s i ≡ Malformed → decode (drop i s) ≡ none
 decode-malformed s i h e = by_first s i h ∙ rw e
 
 pub decode-end : (s : List ℕ) (i : ℕ) → length s ≤ i → decode (drop i s) ≡ some []
-unfolding decodeAfter
+unfolding decode_after
 decode-end s i h = rw (drop_of_length-le s h)

@@ -4,7 +4,7 @@ use mathlib.Core.Bool.{true, false}
 use mathlib.Core.Path.{◌≡◌, refl}
 use mathlib.Core.List.{List, [], ◌∷◌}
 use native.Mathlib.Omega.{arith}
-use Rattle.identity.specs.Unicode.{controls, whiteSpaces, control, whiteSpace}
+use Rattle.identity.specs.Unicode.{controls, white_spaces, control, white_space}
 use Rattle.identity.specs.Scan.{printable, visible}
 use Rattle.identity.proofs.Tests.{within-true, within-below, within-above}
 
@@ -15,7 +15,7 @@ size ((low, high) ∷ ranges) = suc (high - low) + size ranges
 pub sixty-five-controls : size controls ≡ 65
 sixty-five-controls = refl
 
-pub twenty-five-spaces : size whiteSpaces ≡ 25
+pub twenty-five-spaces : size white_spaces ≡ 25
 twenty-five-spaces = refl
 
 pub printable-no-control : (v : ℕ) → printable v ≡ true → control v ≡ false
@@ -24,8 +24,8 @@ printable-no-control v e =
     let h = within-true 0x20 0x7E v e in
     rw (within-above 0x0000 0x001F v (omega arith), within-below 0x007F 0x009F v (omega arith))
 
-pub visible-no-space : (v : ℕ) → visible v ≡ true → whiteSpace v ≡ false
-unfolding whiteSpace
+pub visible-no-space : (v : ℕ) → visible v ≡ true → white_space v ≡ false
+unfolding white_space
 visible-no-space v e =
     let h = within-true 0x21 0x7E v e in
     rw (

@@ -8,10 +8,10 @@ use lib.Dec.{leb, eqb}
 use lib.ListN.{length, get_or}
 use borrow.Author.Tests.{ltb-true, ltb-false, leb-false, le-leb, lt-leb, eq-eqb, ne_eqb, not-true}
 use Rattle.identity.specs.declared.decode.Decoded.TheVariants.{Scalar}
-use Rattle.identity.specs.Utf8.{allowed, follows, valueOfTwo, valueOfThree, valueOfFour, scalarAt}
+use Rattle.identity.specs.Utf8.{allowed, follows, value_of_two, value_of_three, value_of_four, scalar_at}
 use Rattle.identity.specs.Unicode.{control}
-use Rattle.identity.specs.Scan.{ascii, printable, Run, Passed, utf8From, idFrom}
-use Rattle.identity.specs.Window.{due, lowAfter, second, starts, fitsAt, quietAt}
+use Rattle.identity.specs.Scan.{ascii, printable, Run, Passed, utf8_from, id_from}
+use Rattle.identity.specs.Window.{due, low_after, second, starts, fits_at, quiet_at}
 use Rattle.identity.proofs.Tests.{cases, below_or_not, failed, both, neither, or-true, within-true, within-above}
 use Rattle.identity.proofs.Steps.{every-at}
 use Rattle.identity.proofs.Unicode.{printable-no-control}
@@ -47,13 +47,13 @@ record Quiet (s : List ℕ) (i : ℕ) : Type 0 where
   pub two : get_or s (i - 2) 0 < 0xE0
   pub three : get_or s (i - 3) 0 < 0xF0
 
-quiet_is : (s : List ℕ) (i : ℕ) → quietAt s i ≡ true → Quiet s i
+quiet_is : (s : List ℕ) (i : ℕ) → quiet_at s i ≡ true → Quiet s i
 quiet_is s i e =
     let a = neither (leb 0xC0 (get_or s (i - 1) 0)) _ (not-true _ e) in
     let b = neither (leb 0xE0 (get_or s (i - 2) 0)) _ a.1 in
     record { one = leb-false 0xC0 _ a.0; two = leb-false 0xE0 _ b.0; three = leb-false 0xF0 _ b.1 }
 
-quiet_by : (s : List ℕ) (i p q r : ℕ) → i - 1 ≡ p → i - 2 ≡ q → i - 3 ≡ r → get_or s p 0 < 0xC0 → get_or s q 0 < 0xE0 → get_or s r 0 < 0xF0 → quietAt s i ≡ true
+quiet_by : (s : List ℕ) (i p q r : ℕ) → i - 1 ≡ p → i - 2 ≡ q → i - 3 ≡ r → get_or s p 0 < 0xC0 → get_or s q 0 < 0xE0 → get_or s r 0 < 0xF0 → quiet_at s i ≡ true
 quiet_by s i p q r e f g a b c = rw (e, f, g, lt-leb 0xC0 (get_or s p 0) a, lt-leb 0xE0 (get_or s q 0) b, lt-leb 0xF0 (get_or s r 0) c)
 
 -- a choice by d, one side of it
@@ -74,7 +74,7 @@ record Second (any : Bool) (b p : ℕ) : Type 0 where
   pub f0 : p ≡ 0xF0 → 0x90 ≤ b
   pub f4 : p ≡ 0xF4 → b < 0x90
 
-not_low : (a low p b : ℕ) → lowAfter a low p b ≡ false → p ≡ a → low ≤ b
+not_low : (a low p b : ℕ) → low_after a low p b ≡ false → p ≡ a → low ≤ b
 not_low a low p b e f = ltb-false b low (rw (eq-eqb p a f) at e)
 
 -- a test that is left out where any may stand
@@ -85,12 +85,12 @@ unless-any false x e n = not-true x e
 second_is : (any : Bool) (b p : ℕ) → second any b p ≡ true → Second any b p
 second_is any b p e =
     let x = both (follows b) _ e in
-    let y = both (any || not (lowAfter 0xC2 0xA0 p b)) _ x.1 in
-    let z = both (not (lowAfter 0xE0 0xA0 p b)) _ y.1 in
-    let v = both (not (lowAfter 0xF0 0x90 p b)) _ z.1 in
+    let y = both (any || not (low_after 0xC2 0xA0 p b)) _ x.1 in
+    let z = both (not (low_after 0xE0 0xA0 p b)) _ y.1 in
+    let v = both (not (low_after 0xF0 0x90 p b)) _ z.1 in
     record {
       follows = follow b x.0;
-      c2 = λ n. not_low 0xC2 0xA0 p b (unless-any any (lowAfter 0xC2 0xA0 p b) y.0 n);
+      c2 = λ n. not_low 0xC2 0xA0 p b (unless-any any (low_after 0xC2 0xA0 p b) y.0 n);
       e0 = not_low 0xE0 0xA0 p b (not-true _ z.0);
       f0 = not_low 0xF0 0x90 p b (not-true _ v.0);
       f4 = λ f. leb-false 0x90 b (rw (eq-eqb p 0xF4 f) at (not-true (eqb p 0xF4 && leb 0x90 b) v.1));
@@ -100,13 +100,13 @@ second_is any b p e =
 record Over (any : Bool) (s : List ℕ) (i e : ℕ) : Type 0 where
   pub value : ℕ
   pub wide : ℕ
-  pub is : scalarAt s i ≡ Scalar value wide
+  pub is : scalar_at s i ≡ Scalar value wide
   pub inside : i + wide ≤ e
-  pub quiet : quietAt s (i + wide) ≡ true
+  pub quiet : quiet_at s (i + wide) ≡ true
   pub free : any ≡ false → control value ≡ false
 
 -- where no byte is due at i nor at e, and each from i to e fits
-module _ (any : Bool) (s : List ℕ) (i e : ℕ) (l : 3 ≤ i) (h : i < e) (fit : (j : ℕ) → i ≤ j → j < e → fitsAt any s j ≡ true) (q : quietAt s i ≡ true) (z : quietAt s e ≡ true) where
+module _ (any : Bool) (s : List ℕ) (i e : ℕ) (l : 3 ≤ i) (h : i < e) (fit : (j : ℕ) → i ≤ j → j < e → fits_at any s j ≡ true) (q : quiet_at s i ≡ true) (z : quiet_at s e ≡ true) where
   abbrev a : ℕ
   a = get_or s i 0
 
@@ -164,12 +164,12 @@ module _ (any : Bool) (s : List ℕ) (i e : ℕ) (l : 3 ≤ i) (h : i < e) (fit 
       let f = g.follows in
       let fl = f.low in
       let fh = f.high in
-      let low : any ≡ false → control (valueOfTwo a b) ≡ false = λ r. no-control (valueOfTwo a b) (below_or_not 0xC2 a (λ t. omega arith) (λ t. let m = g.c2 r (omega arith) in omega arith)) in
+      let low : any ≡ false → control (value_of_two a b) ≡ false = λ r. no-control (value_of_two a b) (below_or_not 0xC2 a (λ t. omega arith) (λ t. let m = g.c2 r (omega arith) in omega arith)) in
       let u = (quiet_is s i q).one in
       record {
-        value = valueOfTwo a b;
+        value = value_of_two a b;
         wide = 2;
-        is = sym (by_two s i b _ x (omega arith) refl (checked-scalar _ _ _ _ (is-follow b f) (omega arith) (allowed-in (valueOfTwo a b) (omega arith))));
+        is = sym (by_two s i b _ x (omega arith) refl (checked-scalar _ _ _ _ (is-follow b f) (omega arith) (allowed-in (value_of_two a b) (omega arith))));
         inside = omega arith;
         quiet = quiet_by s (i + 2) (i + 1) i (i - 1) (omega arith) (omega arith) (omega arith) (omega arith) (omega arith) (omega arith);
         free = low;
@@ -184,14 +184,14 @@ module _ (any : Bool) (s : List ℕ) (i e : ℕ) (l : 3 ≤ i) (h : i < e) (fit 
       let m = after-second x in
       let k = m.0 in
       let mh = m.1.high in
-      let low : 0x800 ≤ valueOfThree a b c = below_or_not 0xE0 a (λ t. omega arith) (λ t. let l = g.e0 (omega arith) in omega arith) in
+      let low : 0x800 ≤ value_of_three a b c = below_or_not 0xE0 a (λ t. omega arith) (λ t. let l = g.e0 (omega arith) in omega arith) in
       record {
-        value = valueOfThree a b c;
+        value = value_of_three a b c;
         wide = 3;
-        is = sym (by_three s i b c _ x (omega arith) refl refl (checked-scalar (follows b && follows c) _ _ _ (rw (is-follow b f) (is-follow c m.1)) low (allowed-in (valueOfThree a b c) (omega arith))));
+        is = sym (by_three s i b c _ x (omega arith) refl refl (checked-scalar (follows b && follows c) _ _ _ (rw (is-follow b f) (is-follow c m.1)) low (allowed-in (value_of_three a b c) (omega arith))));
         inside = omega arith;
         quiet = quiet_by s (i + 3) (i + 2) (i + 1) i (omega arith) (omega arith) (omega arith) (omega arith) (omega arith) (omega arith);
-        free = λ _. no-control (valueOfThree a b c) (omega arith);
+        free = λ _. no-control (value_of_three a b c) (omega arith);
       }
 
   by-four-bytes : 0xF0 ≤ a → a ≤ 0xF4 → Over any s i e
@@ -207,15 +207,15 @@ module _ (any : Bool) (s : List ℕ) (i e : ℕ) (l : 3 ≤ i) (h : i < e) (fit 
       let n = o.0 in
       let z = o.1.follows in
       let zh = z.high in
-      let low : 0x10000 ≤ valueOfFour a b c d = below_or_not 0xF0 a (λ t. omega arith) (λ t. let l = g.f0 (omega arith) in omega arith) in
-      let high : valueOfFour a b c d ≤ 0x10FFFF = below_or_not a 0xF4 (λ t. omega arith) (λ t. let l = g.f4 (omega arith) in omega arith) in
+      let low : 0x10000 ≤ value_of_four a b c d = below_or_not 0xF0 a (λ t. omega arith) (λ t. let l = g.f0 (omega arith) in omega arith) in
+      let high : value_of_four a b c d ≤ 0x10FFFF = below_or_not a 0xF4 (λ t. omega arith) (λ t. let l = g.f4 (omega arith) in omega arith) in
       record {
-        value = valueOfFour a b c d;
+        value = value_of_four a b c d;
         wide = 4;
-        is = sym (by-four s i b c d _ x (omega arith) refl refl refl (checked-scalar (follows b && (follows c && follows d)) _ _ _ (rw (is-follow b f, is-follow c m.1) (is-follow d z)) low (allowed-in (valueOfFour a b c d) high)));
+        is = sym (by-four s i b c d _ x (omega arith) refl refl refl (checked-scalar (follows b && (follows c && follows d)) _ _ _ (rw (is-follow b f, is-follow c m.1) (is-follow d z)) low (allowed-in (value_of_four a b c d) high)));
         inside = omega arith;
         quiet = quiet_by s (i + 4) (i + 3) (i + 2) (i + 1) (omega arith) (omega arith) (omega arith) (omega arith) (omega arith) (omega arith);
-        free = λ _. no-control (valueOfFour a b c d) (omega arith);
+        free = λ _. no-control (value_of_four a b c d) (omega arith);
       }
 
   over : Over any s i e
@@ -230,8 +230,8 @@ module _ (any : Bool) (s : List ℕ) (i e : ℕ) (l : 3 ≤ i) (h : i < e) (fit 
       (λ u. below_or_not a 0xF0 (λ v. by-three-bytes u (omega arith)) (λ v. by-four-bytes v x1)))
 
 -- what passes over such scalars passes over all of them
-module _ (any : Bool) (s : List ℕ) (e : ℕ) (z : quietAt s e ≡ true) (good : ℕ → Bool) (step : (j v w : ℕ) → 3 ≤ j → j + w ≤ e → scalarAt s j ≡ Scalar v w → (any ≡ false → control v ≡ false) → good j ≡ good (j + w)) where
-  climb : (n i : ℕ) → e - i ≤ n → 3 ≤ i → i ≤ e → ((j : ℕ) → i ≤ j → j < e → fitsAt any s j ≡ true) → quietAt s i ≡ true → good i ≡ good e
+module _ (any : Bool) (s : List ℕ) (e : ℕ) (z : quiet_at s e ≡ true) (good : ℕ → Bool) (step : (j v w : ℕ) → 3 ≤ j → j + w ≤ e → scalar_at s j ≡ Scalar v w → (any ≡ false → control v ≡ false) → good j ≡ good (j + w)) where
+  climb : (n i : ℕ) → e - i ≤ n → 3 ≤ i → i ≤ e → ((j : ℕ) → i ≤ j → j < e → fits_at any s j ≡ true) → quiet_at s i ≡ true → good i ≡ good e
   climb zero i m l h fit q = let k : i ≡ e = omega arith in rw k
   climb (suc n) i m l h fit q =
       below_or_not i e
@@ -243,25 +243,25 @@ module _ (any : Bool) (s : List ℕ) (e : ℕ) (z : quietAt s e ≡ true) (good 
       ∙ climb n (i + o.wide) (omega arith) (omega arith) v (λ j x y. fit j (omega arith) y) o.quiet)
       (λ t. let k : i ≡ e = omega arith in rw k)
 
-module _ (any : Bool) (s : List ℕ) (i k w : ℕ) (l : 3 ≤ i) (run : Run (fitsAt any s) i k (length s - 1)) (h : w ≤ k) (q : quietAt s i ≡ true) (z : quietAt s (i + w) ≡ true) where
+module _ (any : Bool) (s : List ℕ) (i k w : ℕ) (l : 3 ≤ i) (run : Run (fits_at any s) i k (length s - 1)) (h : w ≤ k) (q : quiet_at s i ≡ true) (z : quiet_at s (i + w) ≡ true) where
   within : i + w ≤ length s - 1
   within = let r = run.inside in omega arith
 
-  passed : (good : ℕ → Bool) → ((j v n : ℕ) → 3 ≤ j → j + n ≤ i + w → scalarAt s j ≡ Scalar v n → (any ≡ false → control v ≡ false) → good j ≡ good (j + n)) → Passed good (length s) i w
+  passed : (good : ℕ → Bool) → ((j v n : ℕ) → 3 ≤ j → j + n ≤ i + w → scalar_at s j ≡ Scalar v n → (any ≡ false → control v ≡ false) → good j ≡ good (j + n)) → Passed good (length s) i w
   passed good step =
       record {
         inside = let r = within in omega arith;
-        same = climb any s (i + w) z good step w i (omega arith) l (omega arith) (λ j x y. every-at (fitsAt any s) i k j run.all x (omega arith)) q;
+        same = climb any s (i + w) z good step w i (omega arith) l (omega arith) (λ j x y. every-at (fits_at any s) i k j run.all x (omega arith)) q;
       }
 
-  pub passed-utf8 : Passed (utf8From s) (length s) i w
+  pub passed-utf8 : Passed (utf8_from s) (length s) i w
   passed-utf8 =
-      passed (utf8From s)
+      passed (utf8_from s)
       (λ j v n t u e _. let r = within in let m = (width-at s j e).0 in utf8.over-scalar s j (omega arith) e)
 
-  pub passed-id : any ≡ false → Passed (idFrom s) (length s) i w
+  pub passed-id : any ≡ false → Passed (id_from s) (length s) i w
   passed-id none =
-      passed (idFrom s)
+      passed (id_from s)
       (λ j v n t u e f.
       let r = within in
       let m = (width-at s j e).0 in

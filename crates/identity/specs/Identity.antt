@@ -1,11 +1,11 @@
 -- A valid identity, over the scalars of its text (document 01, module 2).
 use Rattle.std.specs.Prelude.{ℕ, Bool, true, false, not, ◌&&◌, List, [], ◌∷◌}
 use Rattle.identity.specs.Utf8.{Scalars, some, none, decode}
-use Rattle.identity.specs.Unicode.{control, whiteSpace}
+use Rattle.identity.specs.Unicode.{control, white_space}
 
-abbrev pub noControl : List ℕ → Bool
-noControl [] = true
-noControl (v ∷ vs) = not (control v) && noControl vs
+abbrev pub no_control : List ℕ → Bool
+no_control [] = true
+no_control (v ∷ vs) = not (control v) && no_control vs
 
 -- The last of v ∷ vs.
 abbrev pub last : ℕ → List ℕ → ℕ
@@ -13,13 +13,13 @@ last v [] = v
 last v (w ∷ vs) = last w vs
 
 -- Not empty, no control anywhere, the first and the last not White_Space.
-unfoldable pub validScalars : List ℕ → Bool
-validScalars [] = false
-validScalars (v ∷ vs) = noControl (v ∷ vs) && (not (whiteSpace v) && not (whiteSpace (last v vs)))
+unfoldable pub valid_scalars : List ℕ → Bool
+valid_scalars [] = false
+valid_scalars (v ∷ vs) = no_control (v ∷ vs) && (not (white_space v) && not (white_space (last v vs)))
 
-abbrev pub validText : Scalars → Bool
-validText (some vs) = validScalars vs
-validText none = false
+abbrev pub valid_text : Scalars → Bool
+valid_text (some vs) = valid_scalars vs
+valid_text none = false
 
-abbrev pub validId : List ℕ → Bool
-validId s = validText (decode s)
+abbrev pub valid_id : List ℕ → Bool
+valid_id s = valid_text (decode s)

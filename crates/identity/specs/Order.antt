@@ -16,7 +16,7 @@ sign Equal = pos 0
 sign Greater = pos 1
 
 -- Whether a comes after b.
-abbrev pub isGreater : ByteOrder → Bool
-isGreater Less = false
-isGreater Equal = false
-isGreater Greater = true
+abbrev pub is_greater : ByteOrder → Bool
+is_greater Less = false
+is_greater Equal = false
+is_greater Greater = true

@@ -1,11 +1,11 @@
 -- What `utf8` and `decode` have to do with RFC 3629. proofs/Rfc.antt proves `Utf8IsEncoding` and `DecodeInvertsEncode`.
 use Rattle.std.specs.Prelude.{ℕ, true, ◌≡◌, List}
-use Rattle.identity.specs.Utf8.{allAllowed, encodeAll, some, decode, utf8}
+use Rattle.identity.specs.Utf8.{all_allowed, encode_all, some, decode, utf8}
 
 -- The bytes s are the encodings of the scalars vs, one after the other, and each scalar is allowed.
 pub record Encodes (s vs : List ℕ) : Type 0 where
-  pub bytes : s ≡ encodeAll vs
-  pub scalars : allAllowed vs ≡ true
+  pub bytes : s ≡ encode_all vs
+  pub scalars : all_allowed vs ≡ true
 
 -- Bytes are UTF-8 exactly when they are the encodings of some list of allowed scalars.
 abbrev pub Utf8IsEncoding : Type 0

@@ -4,7 +4,7 @@ use Rattle.identity.specs.Within.{within}
 use Rattle.identity.specs.declared.decode.Decoded.{Decoded}
 use Rattle.identity.specs.declared.decode.Decoded.TheVariants.{Scalar, Malformed}
 use Rattle.identity.specs.Utf8.{before, decode, utf8}
-use Rattle.identity.specs.Identity.{validText}
+use Rattle.identity.specs.Identity.{valid_text}
 use Rattle.identity.specs.Order.{compared}
 
 -- How many bytes a scalar takes; 0 where there is none.
@@ -29,17 +29,17 @@ every test o zero = true
 every test o (suc k) = every test o k && test (o + k)
 
 -- Tests of a place: the byte there is ASCII, it is printable, it is visible, two texts have the same byte there.
-abbrev pub asciiAt : List ℕ → ℕ → Bool
-asciiAt s i = ascii (get_or s i 0)
+abbrev pub ascii_at : List ℕ → ℕ → Bool
+ascii_at s i = ascii (get_or s i 0)
 
-abbrev pub printableAt : List ℕ → ℕ → Bool
-printableAt s i = printable (get_or s i 0)
+abbrev pub printable_at : List ℕ → ℕ → Bool
+printable_at s i = printable (get_or s i 0)
 
-abbrev pub visibleAt : List ℕ → ℕ → Bool
-visibleAt s i = visible (get_or s i 0)
+abbrev pub visible_at : List ℕ → ℕ → Bool
+visible_at s i = visible (get_or s i 0)
 
-abbrev pub sameAt : List ℕ → List ℕ → ℕ → Bool
-sameAt a b i = eqb (get_or a i 0) (get_or b i 0)
+abbrev pub same_at : List ℕ → List ℕ → ℕ → Bool
+same_at a b i = eqb (get_or a i 0) (get_or b i 0)
 
 -- The k places from o pass the test and are before the end.
 pub record Run (test : ℕ → Bool) (o k end : ℕ) : Type 0 where
@@ -58,12 +58,12 @@ pub record Stepped (good : ℕ → Bool) (end i w : ℕ) : Type 0 where
   pub on : (w ≡ 0 → ⊥) → good i ≡ good (i + w)
 
 -- The rest of s from i is UTF-8.
-abbrev pub utf8From : List ℕ → ℕ → Bool
-utf8From s i = utf8 (drop i s)
+abbrev pub utf8_from : List ℕ → ℕ → Bool
+utf8_from s i = utf8 (drop i s)
 
 -- The rest of s from i may end an identity: with a letter before it, where it is not the whole, it is one.
-abbrev pub idFrom : List ℕ → ℕ → Bool
-idFrom s i = validText (cond (eqb i 0) (decode (drop i s)) (before 0x61 (decode (drop i s))))
+abbrev pub id_from : List ℕ → ℕ → Bool
+id_from s i = valid_text (cond (eqb i 0) (decode (drop i s)) (before 0x61 (decode (drop i s))))
 
 -- The first i bytes of both texts are the same, so that the rest decides.
 pub record Tied (a b : List ℕ) (i : ℕ) : Type 0 where

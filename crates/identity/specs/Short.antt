@@ -2,13 +2,13 @@
 use Rattle.std.specs.Prelude.{Bool, ◌&&◌, ℕ, List, length}
 use Rattle.identity.specs.declared.IdentityPlace.{IdentityPlace}
 use Rattle.identity.specs.Within.{within}
-use Rattle.identity.specs.Text.{placeInside, identityText}
-use Rattle.identity.specs.Scan.{every, asciiAt}
+use Rattle.identity.specs.Text.{place_inside, identity_text}
+use Rattle.identity.specs.Scan.{every, ascii_at}
 
 -- 4 to 16 bytes, each below 80
-abbrev pub shortAscii : List ℕ → Bool
-shortAscii s = within 4 16 (length s) && every (asciiAt s) 0 (length s)
+abbrev pub short_ascii : List ℕ → Bool
+short_ascii s = within 4 16 (length s) && every (ascii_at s) 0 (length s)
 
 -- a place inside its text, with such a part
-abbrev pub namesAscii : List ℕ → List ℕ → IdentityPlace → Bool
-namesAscii batch house place = placeInside batch house place && shortAscii (identityText batch house place)
+abbrev pub names_ascii : List ℕ → List ℕ → IdentityPlace → Bool
+names_ascii batch house place = place_inside batch house place && short_ascii (identity_text batch house place)

@@ -8,9 +8,9 @@ use Rattle.identity.specs.declared.decode.Decoded.TheVariants.{Scalar, Malformed
 unfoldable pub allowed : ℕ → Bool
 allowed v = leb v 0x10FFFF
 
-abbrev pub allAllowed : List ℕ → Bool
-allAllowed [] = true
-allAllowed (v ∷ vs) = allowed v && allAllowed vs
+abbrev pub all_allowed : List ℕ → Bool
+all_allowed [] = true
+all_allowed (v ∷ vs) = allowed v && all_allowed vs
 
 -- The bytes of a scalar, by the table of RFC 3629, section 3: six bits to each following byte, the highest bits first.
 unfoldable pub encode : ℕ → List ℕ
@@ -20,9 +20,9 @@ encode v =
     (cond (ltb v 0x10000) ((0xE0 + v / 4096) ∷ (0x80 + v / 64 % 64) ∷ (0x80 + v % 64) ∷ [])
     ((0xF0 + v / 262144) ∷ (0x80 + v / 4096 % 64) ∷ (0x80 + v / 64 % 64) ∷ (0x80 + v % 64) ∷ [])))
 
-unfoldable pub encodeAll : List ℕ → List ℕ
-encodeAll [] = []
-encodeAll (v ∷ vs) = encode v ++ encodeAll vs
+unfoldable pub encode_all : List ℕ → List ℕ
+encode_all [] = []
+encode_all (v ∷ vs) = encode v ++ encode_all vs
 
 -- What stands at a place of a text is a `Decoded`, of src/lib.rt: `Scalar v w`, a scalar v in w bytes, or `Malformed`.
 
@@ -35,35 +35,35 @@ abbrev pub checked : Bool → ℕ → ℕ → ℕ → Decoded
 checked following low v w = cond (following && (leb low v && allowed v)) (Scalar v w) Malformed
 
 -- The values of two, three and four bytes: the low bits of the first, then six bits of each following byte.
-abbrev pub valueOfTwo : ℕ → ℕ → ℕ
-valueOfTwo a b = a % 32 * 64 + b % 64
+abbrev pub value_of_two : ℕ → ℕ → ℕ
+value_of_two a b = a % 32 * 64 + b % 64
 
-abbrev pub valueOfThree : ℕ → ℕ → ℕ → ℕ
-valueOfThree a b c = a % 16 * 4096 + b % 64 * 64 + c % 64
+abbrev pub value_of_three : ℕ → ℕ → ℕ → ℕ
+value_of_three a b c = a % 16 * 4096 + b % 64 * 64 + c % 64
 
-abbrev pub valueOfFour : ℕ → ℕ → ℕ → ℕ → ℕ
-valueOfFour a b c d = a % 8 * 262144 + b % 64 * 4096 + c % 64 * 64 + d % 64
+abbrev pub value_of_four : ℕ → ℕ → ℕ → ℕ → ℕ
+value_of_four a b c d = a % 8 * 262144 + b % 64 * 4096 + c % 64 * 64 + d % 64
 
-abbrev pub twoBytes : ℕ → ℕ → Decoded
-twoBytes a b = checked (follows b) 0x80 (valueOfTwo a b) 2
+abbrev pub two_bytes : ℕ → ℕ → Decoded
+two_bytes a b = checked (follows b) 0x80 (value_of_two a b) 2
 
-abbrev pub threeBytes : ℕ → ℕ → ℕ → Decoded
-threeBytes a b c = checked (follows b && follows c) 0x800 (valueOfThree a b c) 3
+abbrev pub three_bytes : ℕ → ℕ → ℕ → Decoded
+three_bytes a b c = checked (follows b && follows c) 0x800 (value_of_three a b c) 3
 
-abbrev pub fourBytes : ℕ → ℕ → ℕ → ℕ → Decoded
-fourBytes a b c d = checked (follows b && (follows c && follows d)) 0x10000 (valueOfFour a b c d) 4
+abbrev pub four_bytes : ℕ → ℕ → ℕ → ℕ → Decoded
+four_bytes a b c d = checked (follows b && (follows c && follows d)) 0x10000 (value_of_four a b c d) 4
 
 -- The scalar whose first byte is a, with b, c and d after it: 00-7F alone, C2-DF and one, E0-EF and two, F0-F4 and three, nothing else.
-abbrev pub scalarOf : ℕ → ℕ → ℕ → ℕ → Decoded
-scalarOf a b c d =
+abbrev pub scalar_of : ℕ → ℕ → ℕ → ℕ → Decoded
+scalar_of a b c d =
     cond (within 0x00 0x7F a) (Scalar a 1)
-    (cond (within 0xC2 0xDF a) (twoBytes a b)
-    (cond (within 0xE0 0xEF a) (threeBytes a b c)
-    (cond (within 0xF0 0xF4 a) (fourBytes a b c d) Malformed)))
+    (cond (within 0xC2 0xDF a) (two_bytes a b)
+    (cond (within 0xE0 0xEF a) (three_bytes a b c)
+    (cond (within 0xF0 0xF4 a) (four_bytes a b c d) Malformed)))
 
 -- The scalar at the place i of s. A byte past the end counts as 0, which is no following byte.
-unfoldable pub scalarAt : List ℕ → ℕ → Decoded
-scalarAt s i = scalarOf (get_or s i 0) (get_or s (i + 1) 0) (get_or s (i + 2) 0) (get_or s (i + 3) 0)
+unfoldable pub scalar_at : List ℕ → ℕ → Decoded
+scalar_at s i = scalar_of (get_or s i 0) (get_or s (i + 1) 0) (get_or s (i + 2) 0) (get_or s (i + 3) 0)
 
 -- The scalars of a text, or none where it is not UTF-8.
 pub data Scalars : Type 0 where
@@ -75,18 +75,18 @@ before v (some vs) = some (v ∷ vs)
 before v none = none
 
 -- A scalar of w bytes in front: the others come after the w - 1 bytes that follow its first.
-abbrev pub inFront : Decoded → (ℕ → Scalars) → Scalars
-inFront (Scalar v w) rest = before v (rest (w - 1))
-inFront Malformed rest = none
+abbrev pub in_front : Decoded → (ℕ → Scalars) → Scalars
+in_front (Scalar v w) rest = before v (rest (w - 1))
+in_front Malformed rest = none
 
 -- The scalars of s after its first k bytes.
-unfoldable pub decodeAfter : List ℕ → ℕ → Scalars
-decodeAfter [] k = some []
-decodeAfter (b ∷ s) (suc k) = decodeAfter s k
-decodeAfter (b ∷ s) zero = inFront (scalarAt (b ∷ s) 0) (decodeAfter s)
+unfoldable pub decode_after : List ℕ → ℕ → Scalars
+decode_after [] k = some []
+decode_after (b ∷ s) (suc k) = decode_after s k
+decode_after (b ∷ s) zero = in_front (scalar_at (b ∷ s) 0) (decode_after s)
 
 abbrev pub decode : List ℕ → Scalars
-decode s = decodeAfter s 0
+decode s = decode_after s 0
 
 abbrev pub is_some : Scalars → Bool
 is_some (some vs) = true

@@ -1,8 +1,8 @@
 // The order of two identities by byte.
 ghost use Rattle.std.specs.Prelude.{◌≡◌, ◌+◌, ◌≤◌, length};
-ghost use Rattle.identity.specs.Order.{compared, sign, isGreater};
-ghost use Rattle.identity.specs.Text.{identityText};
-ghost use Rattle.identity.specs.Scan.{every, sameAt, Tied, Leading};
+ghost use Rattle.identity.specs.Order.{compared, sign, is_greater};
+ghost use Rattle.identity.specs.Text.{identity_text};
+ghost use Rattle.identity.specs.Scan.{every, same_at, Tied, Leading};
 
 use crate::decode::wide;
 use crate::place::identity_text;
@@ -12,7 +12,7 @@ use crate::{ByteOrder, IdentityPlace};
 fn same_block<'a>(left: &'a [u8], right: &'a [u8], at: usize) -> bool
     requires at_in_bounds { at + 16 ≤ length left.now }
     requires at_in_bounds_2 { at + 16 ≤ length right.now }
-    ensures { result ≡ every (sameAt left.now right.now) at 16 }
+    ensures { result ≡ every (same_at left.now right.now) at 16 }
 {
     let mut same = true;
     let mut k = 0;
@@ -87,7 +87,7 @@ fn compare_bytes<'a>(left: &'a [u8], right: &'a [u8]) -> ByteOrder
 
 // Whether the first text comes after the second.
 fn rest_above<'a>(left: &'a [u8], right: &'a [u8]) -> bool
-    ensures { result ≡ isGreater (compared left.now right.now) }
+    ensures { result ≡ is_greater (compared left.now right.now) }
 {
     let order = compare_rest(left, right);
     match order {
@@ -99,7 +99,7 @@ fn rest_above<'a>(left: &'a [u8], right: &'a [u8]) -> bool
 
 // The same for texts at hand, by the first four bytes where they differ. Not by `compare_bytes`, whose answer goes through memory.
 pub fn bytes_above<'a>(left: &'a [u8], right: &'a [u8]) -> bool
-    ensures { result ≡ isGreater (compared left.now right.now) }
+    ensures { result ≡ is_greater (compared left.now right.now) }
 {
     if (4 <= left.len()) & (4 <= right.len()) {
         let a = four(left);
@@ -118,7 +118,7 @@ pub fn compare_places<'a>(
     left: IdentityPlace,
     right: IdentityPlace,
 ) -> ByteOrder
-    ensures { result ≡ compared (identityText batch.now house.now left) (identityText batch.now house.now right) }
+    ensures { result ≡ compared (identity_text batch.now house.now left) (identity_text batch.now house.now right) }
 {
     compare_bytes(
         identity_text(batch, house, left),
@@ -133,7 +133,7 @@ pub fn compare_utf8<'a>(
     left: IdentityPlace,
     right: IdentityPlace,
 ) -> i8
-    ensures { result ≡ sign (compared (identityText batch.now house.now left) (identityText batch.now house.now right)) }
+    ensures { result ≡ sign (compared (identity_text batch.now house.now left) (identity_text batch.now house.now right)) }
 {
     let order = compare_places(batch, house, left, right);
     match order {
@@ -145,7 +145,7 @@ pub fn compare_utf8<'a>(
 
 // Whether the identity `id` comes after `before` by byte: for callers that ask no more, an answer in a register.
 pub fn above<'a>(batch: &'a [u8], house: &'a [u8], id: IdentityPlace, before: IdentityPlace) -> bool
-    ensures { result ≡ isGreater (compared (identityText batch.now house.now id) (identityText batch.now house.now before)) }
+    ensures { result ≡ is_greater (compared (identity_text batch.now house.now id) (identity_text batch.now house.now before)) }
 {
     bytes_above(
         identity_text(batch, house, id),

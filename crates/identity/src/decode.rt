@@ -1,7 +1,7 @@
 // One scalar of a text: UTF-8's bytes and their value, controls and white space.
 ghost use Rattle.std.specs.Prelude.{◌≡◌, ◌<◌, length, get_or, ◌&&◌, leb};
-ghost use Rattle.identity.specs.Utf8.{allowed, follows, checked, valueOfTwo, valueOfThree, valueOfFour, twoBytes, threeBytes, fourBytes, scalarAt};
-ghost use Rattle.identity.specs.Unicode.{control, whiteSpace};
+ghost use Rattle.identity.specs.Utf8.{allowed, follows, checked, value_of_two, value_of_three, value_of_four, two_bytes, three_bytes, four_bytes, scalar_at};
+ghost use Rattle.identity.specs.Unicode.{control, white_space};
 ghost use Rattle.identity.specs.Scan.{width_of};
 
 // What stands at a place of a text: a scalar, or bytes that encode none.
@@ -45,19 +45,19 @@ fn byte_at(text: &[u8], at: usize) -> u8
 
 // The values of two, three and four bytes.
 fn value_of_two(a: u8, b: u8) -> u32
-    ensures { result ≡ valueOfTwo a b }
+    ensures { result ≡ value_of_two a b }
 {
     wide(a) % 32 * 64 + wide(b) % 64
 }
 
 fn value_of_three(a: u8, b: u8, c: u8) -> u32
-    ensures { result ≡ valueOfThree a b c }
+    ensures { result ≡ value_of_three a b c }
 {
     wide(a) % 16 * 4096 + wide(b) % 64 * 64 + wide(c) % 64
 }
 
 fn value_of_four(a: u8, b: u8, c: u8, d: u8) -> u32
-    ensures { result ≡ valueOfFour a b c d }
+    ensures { result ≡ value_of_four a b c d }
 {
     wide(a) % 8 * 262144 + wide(b) % 64 * 4096 + wide(c) % 64 * 64 + wide(d) % 64
 }
@@ -81,21 +81,21 @@ fn checked(following: bool, low: u32, value: u32, width: usize) -> Decoded
 
 // The scalar that two bytes encode.
 fn two_bytes(a: u8, b: u8) -> Decoded
-    ensures { result ≡ twoBytes a b }
+    ensures { result ≡ two_bytes a b }
 {
     checked(follows(b), 0x80, value_of_two(a, b), 2)
 }
 
 // The scalar that three bytes encode.
 fn three_bytes(a: u8, b: u8, c: u8) -> Decoded
-    ensures { result ≡ threeBytes a b c }
+    ensures { result ≡ three_bytes a b c }
 {
     checked(follows(b) & follows(c), 0x800, value_of_three(a, b, c), 3)
 }
 
 // The scalar that four bytes encode.
 fn four_bytes(a: u8, b: u8, c: u8, d: u8) -> Decoded
-    ensures { result ≡ fourBytes a b c d }
+    ensures { result ≡ four_bytes a b c d }
 {
     checked(
         follows(b) & (follows(c) & follows(d)),
@@ -108,7 +108,7 @@ fn four_bytes(a: u8, b: u8, c: u8, d: u8) -> Decoded
 // The scalar that starts at `at`.
 pub fn utf8_scalar(text: &[u8], at: usize) -> Decoded
     requires { at < length text.now }
-    ensures { result ≡ scalarAt text.now at }
+    ensures { result ≡ scalar_at text.now at }
 {
     let a = text[at];
     if a < 0x80 {
@@ -143,7 +143,7 @@ pub fn unicode_control(value: u32) -> bool
 
 // The property White_Space.
 pub fn unicode_whitespace(value: u32) -> bool
-    ensures { result ≡ whiteSpace value }
+    ensures { result ≡ white_space value }
 {
     ((0x0009 <= value) & (value <= 0x000D))
         | (value == 0x0020)
@@ -170,7 +170,7 @@ fn width_if(following: bool, low: u32, value: u32, width: usize) -> usize
 // How many bytes the scalar at `at` takes; 0 where there is none. `utf8_scalar` without the value: an answer in a register is twice as fast.
 pub fn scalar_width(text: &[u8], at: usize) -> usize
     requires { at < length text.now }
-    ensures { result ≡ width_of (scalarAt text.now at) }
+    ensures { result ≡ width_of (scalar_at text.now at) }
 {
     let a = text[at];
     if a < 0x80 {

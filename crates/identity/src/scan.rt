@@ -1,10 +1,10 @@
 // Whether a text is UTF-8, and whether it is a valid identity: by blocks where that can be, else scalar by scalar.
 ghost use Rattle.std.specs.Prelude.{◌≡◌, true, false, ◌+◌, ◌-◌, ◌<◌, ◌≤◌, length};
 ghost use Rattle.identity.specs.Utf8.{utf8};
-ghost use Rattle.identity.specs.Identity.{validId};
-ghost use Rattle.identity.specs.Short.{shortAscii};
-ghost use Rattle.identity.specs.Scan.{ascii, printable, visible, every, asciiAt, printableAt, visibleAt, Run, Passed, Stepped, utf8From, idFrom};
-ghost use Rattle.identity.specs.Window.{due, lowAfter, second, starts, fits, fitsAt, quietAt};
+ghost use Rattle.identity.specs.Identity.{valid_id};
+ghost use Rattle.identity.specs.Short.{short_ascii};
+ghost use Rattle.identity.specs.Scan.{ascii, printable, visible, every, ascii_at, printable_at, visible_at, Run, Passed, Stepped, utf8_from, id_from};
+ghost use Rattle.identity.specs.Window.{due, low_after, second, starts, fits, fits_at, quiet_at};
 
 use crate::decode::{
     Decoded, follows, scalar_width, unicode_control, unicode_whitespace, utf8_scalar,
@@ -33,7 +33,7 @@ fn visible(b: u8) -> bool
 // Whether the 16 bytes from `at` are ASCII: no branch among them, so that they are tested at once.
 fn ascii_block(text: &[u8], at: usize) -> bool
     requires { at + 16 ≤ length text.now }
-    ensures { result ≡ every (asciiAt text.now) at 16 }
+    ensures { result ≡ every (ascii_at text.now) at 16 }
 {
     let mut all = true;
     let mut k = 0;
@@ -47,7 +47,7 @@ fn ascii_block(text: &[u8], at: usize) -> bool
 // The same for ASCII without controls.
 fn printable_block(text: &[u8], at: usize) -> bool
     requires { at + 16 ≤ length text.now }
-    ensures { result ≡ every (printableAt text.now) at 16 }
+    ensures { result ≡ every (printable_at text.now) at 16 }
 {
     let mut all = true;
     let mut k = 0;
@@ -61,7 +61,7 @@ fn printable_block(text: &[u8], at: usize) -> bool
 // How many bytes from `at` on are ASCII, by blocks of 16.
 fn ascii_blocks(text: &[u8], at: usize) -> usize
     requires { at < length text.now }
-    ensures { Run (asciiAt text.now) at result (length text.now) }
+    ensures { Run (ascii_at text.now) at result (length text.now) }
 {
     let left = text.len() - at;
     let mut k = 0;
@@ -77,7 +77,7 @@ fn ascii_blocks(text: &[u8], at: usize) -> usize
 // How many bytes from `at` on are printable, by blocks of 16, none of them the last.
 fn printable_blocks(text: &[u8], at: usize) -> usize
     requires { at < length text.now }
-    ensures { Run (printableAt text.now) at result (length text.now - 1) }
+    ensures { Run (printable_at text.now) at result (length text.now - 1) }
 {
     let left = text.len() - at;
     let mut k = 0;
@@ -93,14 +93,14 @@ fn printable_blocks(text: &[u8], at: usize) -> usize
 // Whether the four bytes from `at` are ASCII, and whether they are visible: for short texts and the ends of long ones.
 fn ascii_four(text: &[u8], at: usize) -> bool
     requires { at + 4 ≤ length text.now }
-    ensures { result ≡ every (asciiAt text.now) at 4 }
+    ensures { result ≡ every (ascii_at text.now) at 4 }
 {
     (ascii(text[at]) & ascii(text[at + 1])) & (ascii(text[at + 2]) & ascii(text[at + 3]))
 }
 
 fn visible_four(text: &[u8], at: usize) -> bool
     requires { at + 4 ≤ length text.now }
-    ensures { result ≡ every (visibleAt text.now) at 4 }
+    ensures { result ≡ every (visible_at text.now) at 4 }
 {
     (visible(text[at]) & visible(text[at + 1])) & (visible(text[at + 2]) & visible(text[at + 3]))
 }
@@ -108,8 +108,8 @@ fn visible_four(text: &[u8], at: usize) -> bool
 // How many of the bytes from `at` on, the first of which is ASCII, are taken at once: 4 of ASCII, or 1.
 fn ascii_few(text: &[u8], at: usize) -> usize
     requires at_in_bounds { at < length text.now }
-    requires at_value { asciiAt text.now at ≡ true }
-    ensures { Stepped (utf8From text.now) (length text.now) at result }
+    requires at_value { ascii_at text.now at ≡ true }
+    ensures { Stepped (utf8_from text.now) (length text.now) at result }
 {
     if 4 <= text.len() - at {
         if ascii_four(text, at) {
@@ -128,7 +128,7 @@ fn due(p: u8, q: u8, r: u8) -> bool
 
 // Whether b stands after the first byte a and is lower than `low`.
 fn low_after(a: u8, low: u8, p: u8, b: u8) -> bool
-    ensures { result ≡ lowAfter a low p b }
+    ensures { result ≡ low_after a low p b }
 {
     (p == a) & (b < low)
 }
@@ -161,7 +161,7 @@ fn fits(any: bool, b: u8, p: u8, q: u8, r: u8) -> bool
 fn fits_block(any: bool, text: &[u8], at: usize) -> bool
     requires le_at { 3 ≤ at }
     requires at_in_bounds { at + 16 ≤ length text.now }
-    ensures { result ≡ every (fitsAt any text.now) at 16 }
+    ensures { result ≡ every (fits_at any text.now) at 16 }
 {
     let mut all = true;
     let mut k = 0;
@@ -177,7 +177,7 @@ fn fits_block(any: bool, text: &[u8], at: usize) -> bool
 fn fits_blocks(any: bool, text: &[u8], at: usize) -> usize
     requires le_at { 3 ≤ at }
     requires at_in_bounds { at < length text.now }
-    ensures { Run (fitsAt any text.now) at result (length text.now - 1) }
+    ensures { Run (fits_at any text.now) at result (length text.now - 1) }
 {
     let rest = text.len() - at;
     let mut k = 0;
@@ -194,7 +194,7 @@ fn fits_blocks(any: bool, text: &[u8], at: usize) -> usize
 fn quiet(text: &[u8], at: usize) -> bool
     requires le_at { 3 ≤ at }
     requires at_in_bounds { at ≤ length text.now }
-    ensures { result ≡ quietAt text.now at }
+    ensures { result ≡ quiet_at text.now at }
 {
     !due(text[at - 1], text[at - 2], text[at - 3])
 }
@@ -203,9 +203,9 @@ fn quiet(text: &[u8], at: usize) -> bool
 fn whole_scalars(text: &[u8], at: usize, k: usize) -> usize
     requires le_at { 3 ≤ at }
     requires k_in_bounds { at + k ≤ length text.now }
-    requires at_value { quietAt text.now at ≡ true }
+    requires at_value { quiet_at text.now at ≡ true }
     ensures upper_bound { result ≤ k }
-    ensures result_value { quietAt text.now (at + result) ≡ true }
+    ensures result_value { quiet_at text.now (at + result) ≡ true }
 {
     let mut w = k;
     while !quiet(text, at + w) {
@@ -226,8 +226,8 @@ fn block_ahead(text: &[u8], at: usize) -> bool
 fn inner_scalars(any: bool, text: &[u8], at: usize) -> usize
     requires le_at { 3 ≤ at }
     requires at_in_bounds { at < length text.now }
-    ensures passed { Passed (utf8From text.now) (length text.now) at result }
-    ensures passed_2 { any ≡ false → Passed (idFrom text.now) (length text.now) at result }
+    ensures passed { Passed (utf8_from text.now) (length text.now) at result }
+    ensures passed_2 { any ≡ false → Passed (id_from text.now) (length text.now) at result }
 {
     if !quiet(text, at) {
         return 0;
@@ -238,7 +238,7 @@ fn inner_scalars(any: bool, text: &[u8], at: usize) -> usize
 // How many bytes from `at` on are whole scalars: blocks of any, blocks of ASCII, a few bytes of it, or one scalar; 0 where there is none.
 fn utf8_step(text: &[u8], at: usize) -> usize
     requires { at < length text.now }
-    ensures { Stepped (utf8From text.now) (length text.now) at result }
+    ensures { Stepped (utf8_from text.now) (length text.now) at result }
 {
     if !ascii(text[at]) {
         if block_ahead(text, at) {
@@ -259,21 +259,21 @@ fn utf8_step(text: &[u8], at: usize) -> usize
 // Eight at once: two fours.
 fn ascii_eight(text: &[u8], at: usize) -> bool
     requires { at + 8 ≤ length text.now }
-    ensures { result ≡ every (asciiAt text.now) at 8 }
+    ensures { result ≡ every (ascii_at text.now) at 8 }
 {
     ascii_four(text, at) & ascii_four(text, at + 4)
 }
 
 fn visible_eight(text: &[u8], at: usize) -> bool
     requires { at + 8 ≤ length text.now }
-    ensures { result ≡ every (visibleAt text.now) at 8 }
+    ensures { result ≡ every (visible_at text.now) at 8 }
 {
     visible_four(text, at) & visible_four(text, at + 4)
 }
 
 // Whether a text is 4 to 16 bytes of ASCII, by its first and its last 4 or 8, which leave none out: a quick test that spares short texts the scan.
 pub fn short_ascii(text: &[u8]) -> bool
-    ensures { result ≡ shortAscii text.now }
+    ensures { result ≡ short_ascii text.now }
 {
     let len = text.len();
     if len < 4 {
@@ -290,7 +290,7 @@ pub fn short_ascii(text: &[u8]) -> bool
 
 // The same for 4 to 8 visible bytes.
 fn few_visible(text: &[u8]) -> bool
-    ensures { result ≡ true → validId text.now ≡ true }
+    ensures { result ≡ true → valid_id text.now ≡ true }
 {
     let len = text.len();
     if len < 4 {
@@ -304,7 +304,7 @@ fn few_visible(text: &[u8]) -> bool
 
 // For 4 to 16.
 fn short_visible(text: &[u8]) -> bool
-    ensures { result ≡ true → validId text.now ≡ true }
+    ensures { result ≡ true → valid_id text.now ≡ true }
 {
     let len = text.len();
     if len <= 8 {
@@ -344,7 +344,7 @@ pub fn is_utf8(text: &[u8]) -> bool
 // How many bytes the scalar at `at` takes in an identity; 0 where it may not stand there.
 fn id_scalar(text: &[u8], at: usize) -> usize
     requires { at < length text.now }
-    ensures { Stepped (idFrom text.now) (length text.now) at result }
+    ensures { Stepped (id_from text.now) (length text.now) at result }
 {
     let found = utf8_scalar(text, at);
     let Decoded::Scalar(value, width) = found else {
@@ -365,7 +365,7 @@ fn id_scalar(text: &[u8], at: usize) -> usize
 fn inner_blocks(text: &[u8], at: usize) -> usize
     requires { at < length text.now }
     ensures value { at ≡ 0 → result ≡ 0 }
-    ensures run { Run (printableAt text.now) at result (length text.now - 1) }
+    ensures run { Run (printable_at text.now) at result (length text.now - 1) }
 {
     if at == 0 {
         return 0;
@@ -376,8 +376,8 @@ fn inner_blocks(text: &[u8], at: usize) -> usize
 // How many of the bytes from `at` on, the first of which is visible, are taken at once: 4 visible ones, or 1.
 fn visible_few(text: &[u8], at: usize) -> usize
     requires at_in_bounds { at < length text.now }
-    requires at_value { visibleAt text.now at ≡ true }
-    ensures { Stepped (idFrom text.now) (length text.now) at result }
+    requires at_value { visible_at text.now at ≡ true }
+    ensures { Stepped (id_from text.now) (length text.now) at result }
 {
     if 4 <= text.len() - at {
         if visible_four(text, at) {
@@ -390,7 +390,7 @@ fn visible_few(text: &[u8], at: usize) -> usize
 // How many bytes from `at` on may stand there in an identity: blocks of scalars or of printable ASCII inside the text, a few visible bytes, or one scalar; 0 where none may.
 fn id_step(text: &[u8], at: usize) -> usize
     requires { at < length text.now }
-    ensures { Stepped (idFrom text.now) (length text.now) at result }
+    ensures { Stepped (id_from text.now) (length text.now) at result }
 {
     if !visible(text[at]) {
         if block_ahead(text, at) {
@@ -410,7 +410,7 @@ fn id_step(text: &[u8], at: usize) -> usize
 
 // Whether a text is a valid identity, step by step.
 fn id_scan(text: &[u8]) -> bool
-    ensures { result ≡ validId text.now }
+    ensures { result ≡ valid_id text.now }
 {
     let mut at = 0;
     while at < text.len() {
@@ -425,7 +425,7 @@ fn id_scan(text: &[u8]) -> bool
 
 // Whether a text is a valid identity: UTF-8, not empty, no control, white space neither first nor last.
 pub fn valid_id(text: &[u8]) -> bool
-    ensures { result ≡ validId text.now }
+    ensures { result ≡ valid_id text.now }
 {
     if short_visible(text) {
         return true;
@@ -435,7 +435,7 @@ pub fn valid_id(text: &[u8]) -> bool
 
 // The same for callers that have many texts: the shortest names are told before the call, by a test that is small enough to be copied to its caller.
 pub fn quick_valid_id(text: &[u8]) -> bool
-    ensures { result ≡ validId text.now }
+    ensures { result ≡ valid_id text.now }
 {
     if few_visible(text) {
         return true;

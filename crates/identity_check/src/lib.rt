@@ -1,7 +1,7 @@
 // The two tests of an identity's text for hosts in other languages.
 ghost use Rattle.std.specs.Prelude.{◌≡◌};
 ghost use Rattle.identity.specs.Utf8.{utf8};
-ghost use Rattle.identity.specs.Identity.{validId};
+ghost use Rattle.identity.specs.Identity.{valid_id};
 
 // Whether a text is UTF-8.
 #[unsafe(no_mangle)]
@@ -14,7 +14,7 @@ pub extern "C" fn is_utf8_text(text: &[u8]) -> bool
 // Whether a text is a valid identity.
 #[unsafe(no_mangle)]
 pub extern "C" fn valid_id_text(text: &[u8]) -> bool
-    ensures { result ≡ validId text.now }
+    ensures { result ≡ valid_id text.now }
 {
     identity::scan::valid_id(text)
 }

@@ -1,6 +1,6 @@
 // Both checks for a host in another language: the answer as document 01's numbers, in eight numbers that the host lends.
-ghost use Rattle.enclave.specs.Answer.{answerNumbers, enclaveAnswer};
-ghost use Rattle.federate.specs.Answer.{federateNumbers, federateAnswer};
+ghost use Rattle.enclave.specs.Answer.{answer_numbers, enclave_answer};
+ghost use Rattle.federate.specs.Answer.{federate_numbers, federate_answer};
 ghost use Rattle.image_check.specs.Answered.{Answered};
 
 use answers::NumberList;
@@ -11,7 +11,7 @@ use federate::check::check_federate;
 
 // 0 and the links, or the refusal's numbers.
 fn enclave_numbers(answer: EnclaveAnswer) -> NumberList
-    ensures { Answered (answerNumbers answer) result.len result.values }
+    ensures { Answered (answer_numbers answer) result.len result.values }
 {
     match answer {
         EnclaveAnswer::Accepted { links } => NumberList {
@@ -24,7 +24,7 @@ fn enclave_numbers(answer: EnclaveAnswer) -> NumberList
 
 // 0, the enclaves and the links, or the refusal's numbers.
 fn federate_numbers(answer: FederateAnswer) -> NumberList
-    ensures { Answered (federateNumbers answer) result.len result.values }
+    ensures { Answered (federate_numbers answer) result.len result.values }
 {
     match answer {
         FederateAnswer::Accepted { enclaves, links } => NumberList {
@@ -43,7 +43,7 @@ pub extern "C" fn check_enclave_image<'a>(
     house: &'a [u8],
     numbers: &mut [u64; 8],
 ) -> u32
-    ensures { Answered (enclaveAnswer pack.now batch.now house.now) result numbers.new }
+    ensures { Answered (enclave_answer pack.now batch.now house.now) result numbers.new }
 {
     let list = enclave_numbers(check_enclave(pack, batch, house));
     let values = list.values;
@@ -59,7 +59,7 @@ pub extern "C" fn check_federate_image<'a>(
     house: &'a [u8],
     numbers: &mut [u64; 8],
 ) -> u32
-    ensures { Answered (federateAnswer pack.now batch.now house.now) result numbers.new }
+    ensures { Answered (federate_answer pack.now batch.now house.now) result numbers.new }
 {
     let list = federate_numbers(check_federate(pack, batch, house));
     let values = list.values;

@@ -9,44 +9,44 @@ use lib.ListN.{drop}
 use borrow.Author.Tests.{ltb-true, lt-ltb}
 use Rattle.answers.proofs.Looser.{Looser, same, slot, looser-same, looser-append, looser-run, looser-stays}
 use Rattle.checks.specs.Image.{Image}
-use Rattle.row_checks.specs.Reactors.{reactorChecks}
-use Rattle.row_checks.specs.Actions.{actionChecks}
-use Rattle.row_checks.specs.Ports.{portChecks}
-use Rattle.row_checks.specs.Reactions.{reactionChecks}
-use Rattle.row_checks.specs.Modes.{modeChecks}
-use Rattle.scope_checks.specs.Scopes.{scopeChecks, scopeRowChecks}
-use Rattle.list_checks.specs.ListTables.{actionTriggerChecks, portTriggerChecks, enabledModesChecks, scopeListChecks, shutdownActionChecks}
-use Rattle.list_checks.specs.Routes.{routeChecks, bindingIdChecks}
-use Rattle.enclave.specs.Passes.{Pass, rowPasses, listPasses, passes, passChecks, checksOf, enclaveChecks}
-use Rattle.larger_bounds.specs.Images.{withBounds, LargerBounds, SameLinks}
+use Rattle.row_checks.specs.Reactors.{reactor_checks}
+use Rattle.row_checks.specs.Actions.{action_checks}
+use Rattle.row_checks.specs.Ports.{port_checks}
+use Rattle.row_checks.specs.Reactions.{reaction_checks}
+use Rattle.row_checks.specs.Modes.{mode_checks}
+use Rattle.scope_checks.specs.Scopes.{scope_checks, scope_row_checks}
+use Rattle.list_checks.specs.ListTables.{action_trigger_checks, port_trigger_checks, enabled_modes_checks, scope_list_checks, shutdown_action_checks}
+use Rattle.list_checks.specs.Routes.{route_checks, binding_id_checks}
+use Rattle.enclave.specs.Passes.{Pass, row_passes, list_passes, passes, pass_checks, checks_of, enclave_checks}
+use Rattle.larger_bounds.specs.Images.{with_bounds, LargerBounds, SameLinks}
 
 larger : (k : ℕ) {a b : ℕ} → a ≤ b → ltb k a ≡ true → ltb k b ≡ true
 larger k {a} {b} h e = lt-ltb k b (omega (arith, ltb-true k a e))
 
 module _ (m : Image) (state action : ℕ) where
   abbrev looser : Image
-  looser = withBounds m state action
+  looser = with_bounds m state action
 
-  reactor-looser : (i : ℕ) → m.stateSlots ≤ state → Looser (reactorChecks m i) (reactorChecks looser i)
-  unfolding reactorChecks
+  reactor-looser : (i : ℕ) → m.state_slots ≤ state → Looser (reactor_checks m i) (reactor_checks looser i)
+  unfolding reactor_checks
   reactor-looser i h = same (same (slot (larger _ h) (looser-same _)))
 
-  action-looser : (i : ℕ) → m.actionSlots ≤ action → Looser (actionChecks m i) (actionChecks looser i)
-  unfolding actionChecks
+  action-looser : (i : ℕ) → m.action_slots ≤ action → Looser (action_checks m i) (action_checks looser i)
+  unfolding action_checks
   action-looser i h = same (slot (larger _ h) (looser-same _))
 
   -- pass by pass
-  pass-looser : (f : Pass) (fs : List Pass) → ((i : ℕ) → Looser (f.checks m i) (f.checks looser i)) → Looser (checksOf m fs) (checksOf looser fs) → Looser (checksOf m (f ∷ fs)) (checksOf looser (f ∷ fs))
-  unfolding checksOf passChecks
+  pass-looser : (f : Pass) (fs : List Pass) → ((i : ℕ) → Looser (f.checks m i) (f.checks looser i)) → Looser (checks_of m fs) (checks_of looser fs) → Looser (checks_of m (f ∷ fs)) (checks_of looser (f ∷ fs))
+  unfolding checks_of pass_checks
   pass-looser f fs h l = looser-append (looser-run (f.checks m) (f.checks looser) h 0 (f.items m.rows)) l
 
   -- the passes after those over reactors and actions look at no bound
-  others_same : Looser (checksOf m (drop 5 passes)) (checksOf looser (drop 5 passes))
-  unfolding checksOf passChecks passes rowPasses listPasses portChecks reactionChecks modeChecks scopeChecks scopeRowChecks actionTriggerChecks portTriggerChecks enabledModesChecks scopeListChecks shutdownActionChecks routeChecks bindingIdChecks
+  others_same : Looser (checks_of m (drop 5 passes)) (checks_of looser (drop 5 passes))
+  unfolding checks_of pass_checks passes row_passes list_passes port_checks reaction_checks mode_checks scope_checks scope_row_checks action_trigger_checks port_trigger_checks enabled_modes_checks scope_list_checks shutdown_action_checks route_checks binding_id_checks
   others_same = looser-same _
 
-  pub enclave-looser : m.stateSlots ≤ state → m.actionSlots ≤ action → Looser (enclaveChecks m) (enclaveChecks looser)
-  unfolding enclaveChecks passes rowPasses
+  pub enclave-looser : m.state_slots ≤ state → m.action_slots ≤ action → Looser (enclave_checks m) (enclave_checks looser)
+  unfolding enclave_checks passes row_passes
   enclave-looser h g =
       pass-looser _ _ (λ i. looser-same _)
       (pass-looser _ _ (λ i. looser-same _)

@@ -10,14 +10,14 @@ use lib.ListN.{length, get_or-eq_default}
 use borrow.Author.Tests.{ltb-false, eqb-true}
 use Rattle.schema.specs.Rows.{byte_of}
 use Rattle.packing.specs.declared.PackKind.TheVariants.{Enclave, Federate}
-use Rattle.packing.specs.Starts.{recordsOf}
+use Rattle.packing.specs.Starts.{records_of}
 use Rattle.packing.proofs.Packed.{fits, in_place, rows_above}
 use Rattle.larger_bounds.specs.Packs.{Packed}
 use Rattle.larger_bounds.specs.Federates.{FederatePacked}
 
 module _ (p batch house : List ℕ) (h : Packed p batch house) where
   -- as many records as the pack's length says
-  pub records : recordsOf p ≡ length p / 64
+  pub records : records_of p ≡ length p / 64
   records = go (ltb (length p / 64) 65536) refl
     where
       go : (b : Bool) → ltb (length p / 64) 65536 ≡ b → cond b (length p / 64) 65536 ≡ length p / 64

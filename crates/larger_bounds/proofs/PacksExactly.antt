@@ -8,15 +8,15 @@ use Rattle.answers.specs.declared.Outcome.{Outcome}
 use Rattle.answers.specs.declared.Outcome.TheVariants.{Passed, Refused}
 use Rattle.answers.specs.Numbers.{numbers}
 use Rattle.answers.specs.Checks.{first}
-use Rattle.answers.specs.Slots.{withoutSlots}
+use Rattle.answers.specs.Slots.{without_slots}
 use Rattle.answers.proofs.RefusalNumbers.{number-positive}
-use Rattle.packing.specs.Starts.{tableStarts}
+use Rattle.packing.specs.Starts.{table_starts}
 use Rattle.checks.specs.Image.{Image, start_of}
 use Rattle.scope_checks.specs.Links.{links}
-use Rattle.enclave.specs.Passes.{enclaveChecks}
-use Rattle.enclave.specs.Answer.{unless, imageAnswer, packImage, enclaveAnswer}
+use Rattle.enclave.specs.Passes.{enclave_checks}
+use Rattle.enclave.specs.Answer.{unless, image_answer, pack_image, enclave_answer}
 use Rattle.larger_bounds.specs.Images.{SlotsBelow}
-use Rattle.larger_bounds.specs.Packs.{Packed, answerWithoutSlots, SlotsUsedBelow, EnclaveAcceptedExactly}
+use Rattle.larger_bounds.specs.Packs.{Packed, answer_without_slots, SlotsUsedBelow, EnclaveAcceptedExactly}
 use Rattle.larger_bounds.proofs.Exactly.{accepted-exactly}
 use Rattle.larger_bounds.proofs.TableRows.{row_is, record_is}
 
@@ -29,34 +29,34 @@ accepted-passed (Refused r) ns n e =
 
 module _ (p batch house : List ℕ) (h : Packed p batch house) where
   abbrev m : Image
-  m = packImage p batch house
+  m = pack_image p batch house
 
-  start-to : (t n : ℕ) → start_of (tableStarts p 1) t ≤ n → start_of (tableStarts p 1) t + (n - start_of (tableStarts p 1) t) ≡ n
+  start-to : (t n : ℕ) → start_of (table_starts p 1) t ≤ n → start_of (table_starts p 1) t + (n - start_of (table_starts p 1) t) ≡ n
   start-to t n l = omega arith
 
   used-slots : SlotsUsedBelow p → SlotsBelow m
   used-slots u = (
-    (λ i l. let r = row_is p batch house h 2 i (omega arith) l in (u (start_of (tableStarts p 1) 2 + i) r.0).0 r.1),
-    (λ i l. let r = row_is p batch house h 3 i (omega arith) l in (u (start_of (tableStarts p 1) 3 + i) r.0).1 r.1),
+    (λ i l. let r = row_is p batch house h 2 i (omega arith) l in (u (start_of (table_starts p 1) 2 + i) r.0).0 r.1),
+    (λ i l. let r = row_is p batch house h 3 i (omega arith) l in (u (start_of (table_starts p 1) 3 + i) r.0).1 r.1),
   )
 
   slots-used : SlotsBelow m → SlotsUsedBelow p
   slots-used b n l = (
-    (λ e. let r = record_is p batch house h 2 n (omega arith) (omega arith) l e in rw (start-to 2 n r.0) at (b.0 (n - start_of (tableStarts p 1) 2) (omega arith))),
-    (λ e. let r = record_is p batch house h 3 n (omega arith) (omega arith) l e in rw (start-to 3 n r.0) at (b.1 (n - start_of (tableStarts p 1) 3) (omega arith))),
+    (λ e. let r = record_is p batch house h 2 n (omega arith) (omega arith) l e in rw (start-to 2 n r.0) at (b.0 (n - start_of (table_starts p 1) 2) (omega arith))),
+    (λ e. let r = record_is p batch house h 3 n (omega arith) (omega arith) l e in rw (start-to 3 n r.0) at (b.1 (n - start_of (table_starts p 1) 3) (omega arith))),
   )
 
-  accepted : (n : ℕ) → enclaveAnswer p batch house ≡ 0 ∷ n ∷ [] → (answerWithoutSlots p batch house ≡ 0 ∷ n ∷ []) × SlotsUsedBelow p
-  unfolding enclaveAnswer imageAnswer answerWithoutSlots
+  accepted : (n : ℕ) → enclave_answer p batch house ≡ 0 ∷ n ∷ [] → (answer_without_slots p batch house ≡ 0 ∷ n ∷ []) × SlotsUsedBelow p
+  unfolding enclave_answer image_answer answer_without_slots
   accepted n e =
-      let a = accepted-passed (first (enclaveChecks m)) (0 ∷ links m ∷ []) n (rw h at e) in
+      let a = accepted-passed (first (enclave_checks m)) (0 ∷ links m ∷ []) n (rw h at e) in
       let x = (accepted-exactly m).0 a.0 in
       (rw (h, x.0) a.1, slots-used x.1)
 
-  without : (n : ℕ) → answerWithoutSlots p batch house ≡ 0 ∷ n ∷ [] → SlotsUsedBelow p → enclaveAnswer p batch house ≡ 0 ∷ n ∷ []
-  unfolding enclaveAnswer imageAnswer answerWithoutSlots
+  without : (n : ℕ) → answer_without_slots p batch house ≡ 0 ∷ n ∷ [] → SlotsUsedBelow p → enclave_answer p batch house ≡ 0 ∷ n ∷ []
+  unfolding enclave_answer image_answer answer_without_slots
   without n e u =
-      let a = accepted-passed (first (withoutSlots (enclaveChecks m))) (0 ∷ links m ∷ []) n (rw h at e) in
+      let a = accepted-passed (first (without_slots (enclave_checks m))) (0 ∷ links m ∷ []) n (rw h at e) in
       rw (h, (accepted-exactly m).1 (a.0, used-slots u)) a.1
 
 pub enclave-accepted-exactly : EnclaveAcceptedExactly

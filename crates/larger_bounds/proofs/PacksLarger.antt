@@ -7,63 +7,63 @@ use Rattle.answers.specs.Checks.{first}
 use Rattle.answers.specs.Slots.{SlotRefusal}
 use Rattle.answers.proofs.Looser.{Looser, looser-stays}
 use Rattle.schema.specs.Rows.{byte_of}
-use Rattle.packing.specs.Starts.{tableStarts}
+use Rattle.packing.specs.Starts.{table_starts}
 use Rattle.checks.specs.Image.{Image, image}
-use Rattle.checks.specs.Lists.{levelChecks, lifecycleChecks, levelsChecks, lifecyclesChecks}
-use Rattle.row_checks.specs.Reactors.{reactorChecks}
-use Rattle.row_checks.specs.Actions.{actionChecks}
-use Rattle.row_checks.specs.Ports.{portChecks}
-use Rattle.row_checks.specs.Reactions.{reactionChecks}
-use Rattle.row_checks.specs.Modes.{modeChecks}
-use Rattle.scope_checks.specs.Scopes.{scopeChecks, scopeRowChecks}
+use Rattle.checks.specs.Lists.{level_checks, lifecycle_checks, levels_checks, lifecycles_checks}
+use Rattle.row_checks.specs.Reactors.{reactor_checks}
+use Rattle.row_checks.specs.Actions.{action_checks}
+use Rattle.row_checks.specs.Ports.{port_checks}
+use Rattle.row_checks.specs.Reactions.{reaction_checks}
+use Rattle.row_checks.specs.Modes.{mode_checks}
+use Rattle.scope_checks.specs.Scopes.{scope_checks, scope_row_checks}
 use Rattle.scope_checks.specs.Links.{links}
-use Rattle.list_checks.specs.ListTables.{actionTriggerChecks, portTriggerChecks, enabledModesChecks, scopeListChecks, shutdownActionChecks}
-use Rattle.list_checks.specs.Routes.{routeChecks, bindingIdChecks}
-use Rattle.enclave.specs.Passes.{rowPasses, listPasses, passes, passChecks, checksOf, enclaveChecks}
-use Rattle.enclave.specs.Answer.{imageAnswer, packImage, enclaveAnswer}
-use Rattle.larger_bounds.specs.Images.{withBounds}
-use Rattle.larger_bounds.specs.Packs.{Packed, stateBound, actionBound, DifferInStorage, SlotAnswer, EnclaveAnswerStays}
+use Rattle.list_checks.specs.ListTables.{action_trigger_checks, port_trigger_checks, enabled_modes_checks, scope_list_checks, shutdown_action_checks}
+use Rattle.list_checks.specs.Routes.{route_checks, binding_id_checks}
+use Rattle.enclave.specs.Passes.{row_passes, list_passes, passes, pass_checks, checks_of, enclave_checks}
+use Rattle.enclave.specs.Answer.{image_answer, pack_image, enclave_answer}
+use Rattle.larger_bounds.specs.Images.{with_bounds}
+use Rattle.larger_bounds.specs.Packs.{Packed, state_bound, action_bound, DifferInStorage, SlotAnswer, EnclaveAnswerStays}
 use Rattle.larger_bounds.proofs.Larger.{enclave-looser}
 use Rattle.larger_bounds.proofs.Packed.{one-enclave, has-enclave}
-use Rattle.larger_bounds.proofs.SamePacks.{inTables, starts-same, image-same}
+use Rattle.larger_bounds.proofs.SamePacks.{in_tables, starts-same, image-same}
 
 -- the checks look at no list but those of the tables
-in_tables : (m : Image) → enclaveChecks (inTables m) ≡ enclaveChecks m
-unfolding enclaveChecks checksOf passChecks passes rowPasses listPasses reactorChecks actionChecks portChecks reactionChecks modeChecks scopeChecks scopeRowChecks levelChecks lifecycleChecks levelsChecks lifecyclesChecks actionTriggerChecks portTriggerChecks enabledModesChecks scopeListChecks shutdownActionChecks routeChecks bindingIdChecks
+in_tables : (m : Image) → enclave_checks (in_tables m) ≡ enclave_checks m
+unfolding enclave_checks checks_of pass_checks passes row_passes list_passes reactor_checks action_checks port_checks reaction_checks mode_checks scope_checks scope_row_checks level_checks lifecycle_checks levels_checks lifecycles_checks action_trigger_checks port_trigger_checks enabled_modes_checks scope_list_checks shutdown_action_checks route_checks binding_id_checks
 in_tables m = refl
 
 -- a slot refusal of the checks is one of the answer
-slot-answer : (m : Image) → SlotRefusal (first (enclaveChecks m)) → SlotAnswer (imageAnswer m)
-unfolding imageAnswer numbers
+slot-answer : (m : Image) → SlotRefusal (first (enclave_checks m)) → SlotAnswer (image_answer m)
+unfolding image_answer numbers
 slot-answer m (t, i, s, b, e) = rw e
 
 -- two packs whose only enclave is record 0's
 module _ (p q batch house : List ℕ) (d : DifferInStorage p q) (single : (n : ℕ) → byte_of p (suc n) 0 ≡ 1 → ⊥) where
   abbrev m : Image
-  m = packImage p batch house
+  m = pack_image p batch house
 
-  checks-same : enclaveChecks (packImage q batch house) ≡ enclaveChecks (withBounds (inTables m) (stateBound q 0) (actionBound q 0))
+  checks-same : enclave_checks (pack_image q batch house) ≡ enclave_checks (with_bounds (in_tables m) (state_bound q 0) (action_bound q 0))
   checks-same =
-      ap (λ x. enclaveChecks (image q batch house x 0)) (starts-same p q d 1)
-      ∙ sym (in_tables (image q batch house (tableStarts p 1) 0))
-      ∙ ap enclaveChecks (image-same p q d batch house single)
+      ap (λ x. enclave_checks (image q batch house x 0)) (starts-same p q d 1)
+      ∙ sym (in_tables (image q batch house (table_starts p 1) 0))
+      ∙ ap enclave_checks (image-same p q d batch house single)
 
   -- the checks of the one with the larger bounds are looser
-  pub pack-looser : stateBound p 0 ≤ stateBound q 0 → actionBound p 0 ≤ actionBound q 0 → Looser (enclaveChecks m) (enclaveChecks (packImage q batch house))
-  pack-looser h g = rw (checks-same, ← in_tables m) (enclave-looser (inTables m) (stateBound q 0) (actionBound q 0) h g)
+  pub pack-looser : state_bound p 0 ≤ state_bound q 0 → action_bound p 0 ≤ action_bound q 0 → Looser (enclave_checks m) (enclave_checks (pack_image q batch house))
+  pack-looser h g = rw (checks-same, ← in_tables m) (enclave-looser (in_tables m) (state_bound q 0) (action_bound q 0) h g)
 
-  pub pack-links : links (packImage q batch house) ≡ links m
+  pub pack-links : links (pack_image q batch house) ≡ links m
   pack-links =
       ap (λ x. links (image q batch house x 0)) (starts-same p q d 1)
       ∙ ap links (image-same p q d batch house single)
 
-  pub pack-stays : stateBound p 0 ≤ stateBound q 0 → actionBound p 0 ≤ actionBound q 0 → (SlotAnswer (imageAnswer m) → ⊥) → imageAnswer (packImage q batch house) ≡ imageAnswer m
-  unfolding imageAnswer
+  pub pack-stays : state_bound p 0 ≤ state_bound q 0 → action_bound p 0 ≤ action_bound q 0 → (SlotAnswer (image_answer m) → ⊥) → image_answer (pack_image q batch house) ≡ image_answer m
+  unfolding image_answer
   pack-stays h g o = rw (looser-stays (pack-looser h g) (λ r. o (slot-answer m r)), pack-links)
 
 -- a pack that passes the packing rules has its image's answer
-pack-answer : (p batch house : List ℕ) → Packed p batch house → enclaveAnswer p batch house ≡ imageAnswer (packImage p batch house)
-unfolding enclaveAnswer
+pack-answer : (p batch house : List ℕ) → Packed p batch house → enclave_answer p batch house ≡ image_answer (pack_image p batch house)
+unfolding enclave_answer
 pack-answer p batch house h = rw h
 
 pub answer-stays : EnclaveAnswerStays

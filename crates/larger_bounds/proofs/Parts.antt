@@ -9,16 +9,16 @@ use native.Mathlib.Nat.{min-le_left}
 use lib.ListN.{length, get_or, drop, length-take, get_or-eq_default}
 use lib.Seq.{get_or-take, get_or-drop}
 use borrow.Author.Tests.{eq-eqb}
-use Rattle.schema.specs.Rows.{byte_of, enclaveAt}
-use Rattle.packing.specs.Starts.{recordsOf}
-use Rattle.federate.specs.Records.{is_of, enclaveFrom, enclaveEnd, enclavePack}
-use Rattle.larger_bounds.specs.Packs.{stateBound, actionBound}
+use Rattle.schema.specs.Rows.{byte_of, enclave_at}
+use Rattle.packing.specs.Starts.{records_of}
+use Rattle.federate.specs.Records.{is_of, enclave_from, enclave_end, enclave_pack}
+use Rattle.larger_bounds.specs.Packs.{state_bound, action_bound}
 use Rattle.larger_bounds.proofs.Tests.{cases}
 use Rattle.larger_bounds.proofs.RowBytes.{number_same}
 
 -- no record between an enclave's own and its end is an enclave's
-before-end : (p : List ℕ) (k a n : ℕ) → a ≤ n → n < enclaveFrom p a k → is_of p 1 n ≡ true → ⊥
-unfolding enclaveFrom
+before-end : (p : List ℕ) (k a n : ℕ) → a ≤ n → n < enclave_from p a k → is_of p 1 n ≡ true → ⊥
+unfolding enclave_from
 before-end p zero a n l u e = absurd (omega arith)
 before-end p (suc k) a n l u e =
     cases (is_of p 1 a)
@@ -30,20 +30,20 @@ before-end p (suc k) a n l u e =
       | no g ↦ before-end p k (suc a) n (omega arith) v e
     ])
 
-after-own : (p : List ℕ) (k a : ℕ) → a ≤ enclaveFrom p a k
-unfolding enclaveFrom
+after-own : (p : List ℕ) (k a : ℕ) → a ≤ enclave_from p a k
+unfolding enclave_from
 after-own p zero a = omega arith
 after-own p (suc k) a = cases (is_of p 1 a) (λ b. rw b (omega arith)) (λ b. rw b (let h = after-own p k (suc a) in omega arith))
 
 module _ (p : List ℕ) (n : ℕ) where
   abbrev own : List ℕ
-  own = enclavePack p n
+  own = enclave_pack p n
 
   abbrev pub many : ℕ
-  many = (enclaveEnd p n - n) * 64
+  many = (enclave_end p n - n) * 64
 
   own-some : 64 ≤ many
-  own-some = let h = after-own p (recordsOf p - suc n) (suc n) in omega arith
+  own-some = let h = after-own p (records_of p - suc n) (suc n) in omega arith
 
   -- a byte inside is the federate's; one outside is 0
   pub byte_inside : (m j : ℕ) → m * 64 + j < many → byte_of own m j ≡ byte_of p (n + m) j
@@ -65,13 +65,13 @@ module _ (p : List ℕ) (n : ℕ) where
   own-single m e =
       elim (dec_le many (suc m * 64 + 0)) [
         | yes g ↦ (let z = byte-outside (suc m) 0 g in absurd (omega arith))
-        | no g ↦ before-end p (recordsOf p - suc n) (suc n) (n + suc m) (omega arith) (omega arith) (eq-eqb _ _ (sym (byte_inside (suc m) 0 (omega arith)) ∙ e))
+        | no g ↦ before-end p (records_of p - suc n) (suc n) (n + suc m) (omega arith) (omega arith) (eq-eqb _ _ (sym (byte_inside (suc m) 0 (omega arith)) ∙ e))
       ]
 
-  pub own-state : stateBound own 0 ≡ stateBound p n
-  unfolding enclaveAt
+  pub own-state : state_bound own 0 ≡ state_bound p n
+  unfolding enclave_at
   own-state = number_same p own n 0 4 12 (λ j l. own-byte j (omega arith))
 
-  pub own-action : actionBound own 0 ≡ actionBound p n
-  unfolding enclaveAt
+  pub own-action : action_bound own 0 ≡ action_bound p n
+  unfolding enclave_at
   own-action = number_same p own n 0 4 16 (λ j l. own-byte j (omega arith))

@@ -6,16 +6,16 @@ use mathlib.Core.List.{List, [], ◌∷◌}
 use native.Mathlib.Omega.{arith}
 use lib.ListN.{get_or}
 use Rattle.schema.specs.Number.{number}
-use Rattle.schema.specs.Layout.{Field, W, bytes, Layout, offsetFrom, offset, field_at}
+use Rattle.schema.specs.Layout.{Field, W, bytes, Layout, offset_from, offset, field_at}
 use Rattle.schema.specs.Rows.{byte_of, field, row}
-use Rattle.packing.specs.Shape.{endFrom, used}
+use Rattle.packing.specs.Shape.{end_from, used}
 
 -- fields follow one another, so each ends where the last one ends or before; one past them is taken for a W
-end_after : (o : ℕ) (fs : List Field) → o ≤ endFrom o fs
+end_after : (o : ℕ) (fs : List Field) → o ≤ end_from o fs
 end_after o [] = omega arith
 end_after o (f ∷ fs) = let h = end_after (o + bytes f) fs in omega arith
 
-field_end : (o : ℕ) (fs : List Field) (k : ℕ) → offsetFrom o fs k + bytes (get_or fs k W) ≤ endFrom o fs + 4
+field_end : (o : ℕ) (fs : List Field) (k : ℕ) → offset_from o fs k + bytes (get_or fs k W) ≤ end_from o fs + 4
 field_end o [] zero = omega arith
 field_end o [] (suc k) = omega arith
 field_end o (f ∷ fs) zero = let h = end_after (o + bytes f) fs in omega arith

@@ -10,11 +10,11 @@ use borrow.Author.Tests.{eqb-true}
 use Rattle.identity.specs.declared.IdentityPlace.{IdentityPlace}
 use Rattle.schema.specs.declared.rows.RouteImage.{RouteImage}
 use Rattle.schema.specs.Layout as layout
-use Rattle.schema.specs.Rows.{byte_of, federateOf, routeOf, federateAt, routeAt}
-use Rattle.packing.specs.Starts.{recordsOf}
+use Rattle.schema.specs.Rows.{byte_of, federate_of, route_of, federate_at, route_at}
+use Rattle.packing.specs.Starts.{records_of}
 use Rattle.federate.specs.declared.route_pairs.Half.{Half}
-use Rattle.federate.specs.Records.{is_of, countBelow, enclavesBefore, enclavesOf, enclaveBefore, enclaveFrom, enclaveEnd, enclavePack}
-use Rattle.federate.specs.RoutePairs.{halfAt, halves, pairChecks, routeRecordChecks}
+use Rattle.federate.specs.Records.{is_of, count_below, enclaves_before, enclaves_of, enclave_before, enclave_from, enclave_end, enclave_pack}
+use Rattle.federate.specs.RoutePairs.{half_at, halves, pair_checks, route_record_checks}
 use Rattle.larger_bounds.specs.Packs.{StorageByte, DifferInStorage}
 use Rattle.larger_bounds.proofs.RowBytes.{row_same}
 use Rattle.larger_bounds.proofs.SamePacks.{table_same, record_same}
@@ -28,40 +28,40 @@ module _ (p q : List ℕ) (d : DifferInStorage p q) where
   pub test-same : (t n : ℕ) → is_of q t n ≡ is_of p t n
   test-same t n = rw (table_same p q d n)
 
-  pub records-same : recordsOf q ≡ recordsOf p
+  pub records-same : records_of q ≡ records_of p
   records-same = rw d.0
 
   -- the enclaves, and where each ends
-  pub enclaves-same : (n : ℕ) → enclavesBefore q n ≡ enclavesBefore p n
-  enclaves-same n = ap (λ (f : ℕ → Bool). countBelow f n) (tests 1)
+  pub enclaves-same : (n : ℕ) → enclaves_before q n ≡ enclaves_before p n
+  enclaves-same n = ap (λ (f : ℕ → Bool). count_below f n) (tests 1)
 
-  pub count_same : enclavesOf q ≡ enclavesOf p
-  count_same = ap (enclavesBefore q) records-same ∙ enclaves-same (recordsOf p)
+  pub count_same : enclaves_of q ≡ enclaves_of p
+  count_same = ap (enclaves_before q) records-same ∙ enclaves-same (records_of p)
 
-  pub before_same : (n : ℕ) → enclaveBefore q n ≡ enclaveBefore p n
-  unfolding enclaveBefore
+  pub before_same : (n : ℕ) → enclave_before q n ≡ enclave_before p n
+  unfolding enclave_before
   before_same zero = refl
   before_same (suc n) = rw (table_same p q d n, before_same n)
 
-  from-same : (n k : ℕ) → enclaveFrom q n k ≡ enclaveFrom p n k
-  unfolding enclaveFrom
+  from-same : (n k : ℕ) → enclave_from q n k ≡ enclave_from p n k
+  unfolding enclave_from
   from-same n zero = refl
   from-same n (suc k) = rw (table_same p q d n, from-same (suc n) k)
 
-  end_same : (n : ℕ) → enclaveEnd q n ≡ enclaveEnd p n
-  end_same n = ap (λ (r : ℕ). enclaveFrom q (suc n) (r - suc n)) records-same ∙ from-same (suc n) (recordsOf p - suc n)
+  end_same : (n : ℕ) → enclave_end q n ≡ enclave_end p n
+  end_same n = ap (λ (r : ℕ). enclave_from q (suc n) (r - suc n)) records-same ∙ from-same (suc n) (records_of p - suc n)
 
   many-same : (n : ℕ) → many q n ≡ many p n
   many-same n = ap (λ (e : ℕ). (e - n) * 64) (end_same n)
 
   -- their packs differ only in the storage numbers
-  pub parts-differ : (n : ℕ) → DifferInStorage (enclavePack p n) (enclavePack q n)
+  pub parts-differ : (n : ℕ) → DifferInStorage (enclave_pack p n) (enclave_pack q n)
   parts-differ n = (lengths, bytes)
     where
-      lengths : length (enclavePack q n) ≡ length (enclavePack p n)
+      lengths : length (enclave_pack q n) ≡ length (enclave_pack p n)
       lengths = length-take (many q n) (drop (n * 64) q) ∙ rw (many-same n, length-drop (n * 64) q, d.0, ← length-drop (n * 64) p) (sym (length-take (many p n) (drop (n * 64) p)))
 
-      bytes : (m j : ℕ) → j < 64 → (StorageByte (enclavePack p n) m j → ⊥) → byte_of (enclavePack q n) m j ≡ byte_of (enclavePack p n) m j
+      bytes : (m j : ℕ) → j < 64 → (StorageByte (enclave_pack p n) m j → ⊥) → byte_of (enclave_pack q n) m j ≡ byte_of (enclave_pack p n) m j
       bytes m j l o =
           elim (dec_le (many p n) (m * 64 + j)) [
             | yes g ↦ byte-outside q n m j (rw (many-same n) g) ∙ sym (byte-outside p n m j g)
@@ -75,31 +75,31 @@ module _ (p q : List ℕ) (d : DifferInStorage p q) where
   other : (t n : ℕ) → (t ≡ 1 → ⊥) → is_of p t n ≡ true → byte_of p n 0 ≡ 1 → ⊥
   other t n o e f = o (sym (eqb-true (byte_of p n 0) t e) ∙ f)
 
-  pub federate-same : byte_of p 0 0 ≡ 0 → federateAt q 0 ≡ federateAt p 0
-  unfolding federateAt
-  federate-same z = row_same p q 0 0 federateOf layout.federate (omega arith) (record_same p q d 0 (λ e. omega arith))
+  pub federate-same : byte_of p 0 0 ≡ 0 → federate_at q 0 ≡ federate_at p 0
+  unfolding federate_at
+  federate-same z = row_same p q 0 0 federate_of layout.federate (omega arith) (record_same p q d 0 (λ e. omega arith))
 
-  route-same : (n : ℕ) → is_of p 23 n ≡ true → routeAt q n ≡ routeAt p n
-  unfolding routeAt
-  route-same n e = row_same p q n n routeOf layout.routes (omega arith) (record_same p q d n (other 23 n (λ x. omega arith) e))
+  route-same : (n : ℕ) → is_of p 23 n ≡ true → route_at q n ≡ route_at p n
+  unfolding route_at
+  route-same n e = row_same p q n n route_of layout.routes (omega arith) (record_same p q d n (other 23 n (λ x. omega arith) e))
 
   -- the routes
   module _ (text : IdentityPlace → List ℕ) where
-    half-same : (r : RouteImage) (half : Half) (k : ℕ) → halfAt text q r half k ≡ halfAt text p r half k
+    half-same : (r : RouteImage) (half : Half) (k : ℕ) → half_at text q r half k ≡ half_at text p r half k
     half-same r half k =
         rw (test-same 23 k)
         (cases (is_of p 23 k) (λ e. rw (e, route-same k e)) (λ e. rw e))
 
     halves-same : (r : RouteImage) (half : Half) → halves text q r half ≡ halves text p r half
     halves-same r half =
-        ap (λ (f : ℕ → Bool). countBelow f (recordsOf q)) (fun_ext (half-same r half))
-        ∙ ap (countBelow (halfAt text p r half)) records-same
+        ap (λ (f : ℕ → Bool). count_below f (records_of q)) (fun_ext (half-same r half))
+        ∙ ap (count_below (half_at text p r half)) records-same
 
-    pairs-same : (r : RouteImage) → pairChecks text q r ≡ pairChecks text p r
+    pairs-same : (r : RouteImage) → pair_checks text q r ≡ pair_checks text p r
     pairs-same r = rw (halves-same r _, halves-same r _, halves-same r _, halves-same r _)
 
-    pub routes-same : (n : ℕ) → routeRecordChecks text q n ≡ routeRecordChecks text p n
-    unfolding routeRecordChecks
+    pub routes-same : (n : ℕ) → route_record_checks text q n ≡ route_record_checks text p n
+    unfolding route_record_checks
     routes-same n =
         rw (test-same 23 n)
-        (cases (is_of p 23 n) (λ e. rw e (rw (route-same n e) (pairs-same (routeAt p n)))) (λ e. rw e))
+        (cases (is_of p 23 n) (λ e. rw e (rw (route-same n e) (pairs-same (route_at p n)))) (λ e. rw e))

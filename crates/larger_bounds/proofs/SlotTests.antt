@@ -8,7 +8,7 @@ use lib.ListN.{drop}
 use Rattle.answers.specs.Numbers.{numbers}
 use Rattle.answers.specs.declared.Refusal.{Refusal}
 use Rattle.answers.specs.Checks.{Check, need, run}
-use Rattle.answers.specs.Slots.{isSlot, slotsHold}
+use Rattle.answers.specs.Slots.{is_slot, slots_hold}
 use Rattle.answers.proofs.Slots.{slots-append}
 use Rattle.schema.specs.declared.index.MaybeMode.{MaybeMode}
 use Rattle.schema.specs.declared.index.MaybeMode.TheVariants.{NoMode, Mode}
@@ -24,25 +24,25 @@ use Rattle.schema.specs.declared.lists.LevelReactionImage.{LevelReactionImage}
 use Rattle.schema.specs.declared.lists.LifecycleReactionImage.{LifecycleReactionImage}
 use Rattle.range.specs.declared.IndexSpan.{IndexSpan}
 use Rattle.checks.specs.Image.{Image, ReactionPart}
-use Rattle.checks.specs.Lists.{levelChecks, lifecycleChecks, levelsChecks, lifecyclesChecks}
-use Rattle.row_checks.specs.Reactors.{initialModeChecks, bankChecks, reactorChecks}
-use Rattle.row_checks.specs.Actions.{actionBindingChecks, actionChecks}
-use Rattle.row_checks.specs.Ports.{portChecks}
-use Rattle.row_checks.specs.Reactions.{effectChecks, reactionChecks}
-use Rattle.row_checks.specs.Modes.{modeChecks}
-use Rattle.scope_checks.specs.Ends.{memberRangeChecks, reactionRangeChecks}
-use Rattle.scope_checks.specs.Scopes.{parentChecks, scopeModeChecks, scopeRowChecks, scopeChecks}
-use Rattle.list_checks.specs.ListTables.{actionTriggerChecks, portTriggerChecks, enabledModesChecks, scopeListChecks, shutdownActionChecks}
-use Rattle.list_checks.specs.Routes.{routeChecks, bindingIdChecks}
-use Rattle.enclave.specs.Passes.{Pass, rowPasses, listPasses, passes, over, times, lengthChecks, rootChecks, enclaveIdChecks, passChecks, checksOf, enclaveChecks}
+use Rattle.checks.specs.Lists.{level_checks, lifecycle_checks, levels_checks, lifecycles_checks}
+use Rattle.row_checks.specs.Reactors.{initial_mode_checks, bank_checks, reactor_checks}
+use Rattle.row_checks.specs.Actions.{action_binding_checks, action_checks}
+use Rattle.row_checks.specs.Ports.{port_checks}
+use Rattle.row_checks.specs.Reactions.{effect_checks, reaction_checks}
+use Rattle.row_checks.specs.Modes.{mode_checks}
+use Rattle.scope_checks.specs.Ends.{member_range_checks, reaction_range_checks}
+use Rattle.scope_checks.specs.Scopes.{parent_checks, scope_mode_checks, scope_row_checks, scope_checks}
+use Rattle.list_checks.specs.ListTables.{action_trigger_checks, port_trigger_checks, enabled_modes_checks, scope_list_checks, shutdown_action_checks}
+use Rattle.list_checks.specs.Routes.{route_checks, binding_id_checks}
+use Rattle.enclave.specs.Passes.{Pass, row_passes, list_passes, passes, over, times, length_checks, root_checks, enclave_id_checks, pass_checks, checks_of, enclave_checks}
 
 -- no check of the list is a slot check
 data Plain : List Check → Type 0 where
   none : Plain []
-  more : {b : Bool} {r : Refusal} {cs : List Check} → isSlot r ≡ false → Plain cs → Plain (need b r ∷ cs)
+  more : {b : Bool} {r : Refusal} {cs : List Check} → is_slot r ≡ false → Plain cs → Plain (need b r ∷ cs)
 
-plain-holds : {cs : List Check} → Plain cs → slotsHold cs ≡ true
-unfolding slotsHold
+plain-holds : {cs : List Check} → Plain cs → slots_hold cs ≡ true
+unfolding slots_hold
 plain-holds none = refl
 plain-holds (more e h) = rw e (plain-holds h)
 
@@ -60,35 +60,35 @@ plain-cond true h = none
 plain-cond false h = h
 
 -- the checks of optional fields
-initial-mode : (rows : ℕ → ℕ) (i : ℕ) (span : IndexSpan) (mode : MaybeMode) → Plain (initialModeChecks rows i span mode)
-unfolding isSlot numbers
+initial-mode : (rows : ℕ → ℕ) (i : ℕ) (span : IndexSpan) (mode : MaybeMode) → Plain (initial_mode_checks rows i span mode)
+unfolding is_slot numbers
 initial-mode rows i span NoMode = none
 initial-mode rows i span (Mode m) = more refl (more refl none)
 
-bank : (i : ℕ) (b : MaybeBank) → Plain (bankChecks i b)
-unfolding isSlot numbers
+bank : (i : ℕ) (b : MaybeBank) → Plain (bank_checks i b)
+unfolding is_slot numbers
 bank i NoBank = none
 bank i (Bank b) = more refl none
 
-action-binding : (rows : ℕ → ℕ) (bindings : ℕ → RequiredBindingImage) (i : ℕ) (standard : Bool) (b : MaybeBinding) → Plain (actionBindingChecks rows bindings i standard b)
-unfolding isSlot numbers
+action-binding : (rows : ℕ → ℕ) (bindings : ℕ → RequiredBindingImage) (i : ℕ) (standard : Bool) (b : MaybeBinding) → Plain (action_binding_checks rows bindings i standard b)
+unfolding is_slot numbers
 action-binding rows bindings i true (Binding b) = more refl (more refl none)
 action-binding rows bindings i true NoBinding = more refl none
 action-binding rows bindings i false (Binding b) = more refl none
 action-binding rows bindings i false NoBinding = none
 
-effect : (rows : ℕ → ℕ) (modes : ℕ → ModeImage) (i reactor : ℕ) (mode : MaybeMode) → Plain (effectChecks rows modes i reactor mode)
-unfolding isSlot numbers
+effect : (rows : ℕ → ℕ) (modes : ℕ → ModeImage) (i reactor : ℕ) (mode : MaybeMode) → Plain (effect_checks rows modes i reactor mode)
+unfolding is_slot numbers
 effect rows modes i reactor NoMode = none
 effect rows modes i reactor (Mode m) = more refl (more refl none)
 
-parent : (rows : ℕ → ℕ) (i : ℕ) (s : MaybeScope) → Plain (parentChecks rows i s)
-unfolding isSlot numbers
+parent : (rows : ℕ → ℕ) (i : ℕ) (s : MaybeScope) → Plain (parent_checks rows i s)
+unfolding is_slot numbers
 parent rows i NoScope = none
 parent rows i (Scope s) = more refl none
 
-scope-mode : (rows : ℕ → ℕ) (modes : ℕ → ModeImage) (i reactor : ℕ) (mode : MaybeMode) → Plain (scopeModeChecks rows modes i reactor mode)
-unfolding isSlot numbers
+scope-mode : (rows : ℕ → ℕ) (modes : ℕ → ModeImage) (i reactor : ℕ) (mode : MaybeMode) → Plain (scope_mode_checks rows modes i reactor mode)
+unfolding is_slot numbers
 scope-mode rows modes i reactor NoMode = none
 scope-mode rows modes i reactor (Mode m) = more refl (more refl none)
 
@@ -96,100 +96,100 @@ ruleset plain-laws = (none, more, plain-append, plain-run, plain-cond)
 
 -- the entries of lists of reactions
 module _ (rows : ℕ → ℕ) (reactions : ℕ → ReactionPart) (t start : ℕ) where
-  levels-plain : (levels : ℕ → ℕ → LevelReactionImage) (len : ℕ) → Plain (levelsChecks rows reactions levels t start len)
-  unfolding levelsChecks levelChecks isSlot numbers
+  levels-plain : (levels : ℕ → ℕ → LevelReactionImage) (len : ℕ) → Plain (levels_checks rows reactions levels t start len)
+  unfolding levels_checks level_checks is_slot numbers
   levels-plain levels len = search plain-laws depth 20
 
-  lifecycle-plain : (lifecycles : ℕ → ℕ → LifecycleReactionImage) (k : ℕ) → Plain (lifecycleChecks rows reactions lifecycles t start k)
-  unfolding lifecycleChecks isSlot numbers
+  lifecycle-plain : (lifecycles : ℕ → ℕ → LifecycleReactionImage) (k : ℕ) → Plain (lifecycle_checks rows reactions lifecycles t start k)
+  unfolding lifecycle_checks is_slot numbers
   lifecycle-plain lifecycles k = search plain-laws depth 20
 
-  lifecycles-plain : (lifecycles : ℕ → ℕ → LifecycleReactionImage) (len : ℕ) → Plain (lifecyclesChecks rows reactions lifecycles t start len)
-  unfolding lifecyclesChecks
+  lifecycles-plain : (lifecycles : ℕ → ℕ → LifecycleReactionImage) (len : ℕ) → Plain (lifecycles_checks rows reactions lifecycles t start len)
+  unfolding lifecycles_checks
   lifecycles-plain lifecycles len = plain-run (lifecycle-plain lifecycles) 0 len
 
 module _ (m : Image) where
   -- the rows and the entries of a pass
-  ports-plain : (i : ℕ) → Plain (portChecks m i)
-  unfolding portChecks isSlot numbers
+  ports-plain : (i : ℕ) → Plain (port_checks m i)
+  unfolding port_checks is_slot numbers
   ports-plain i = search plain-laws depth 20
 
-  reactions-plain : (i : ℕ) → Plain (reactionChecks m i)
-  unfolding reactionChecks isSlot numbers
+  reactions-plain : (i : ℕ) → Plain (reaction_checks m i)
+  unfolding reaction_checks is_slot numbers
   reactions-plain i = search (plain-laws, effect) depth 30
 
-  modes-plain : (i : ℕ) → Plain (modeChecks m i)
-  unfolding modeChecks isSlot numbers
+  modes-plain : (i : ℕ) → Plain (mode_checks m i)
+  unfolding mode_checks is_slot numbers
   modes-plain i = search plain-laws depth 20
 
-  scopes-plain : (i : ℕ) → Plain (scopeChecks m i)
-  unfolding scopeChecks scopeRowChecks memberRangeChecks reactionRangeChecks isSlot numbers
+  scopes-plain : (i : ℕ) → Plain (scope_checks m i)
+  unfolding scope_checks scope_row_checks member_range_checks reaction_range_checks is_slot numbers
   scopes-plain i = search (plain-laws, parent, scope-mode) depth 30
 
-  action-triggers-plain : (i : ℕ) → Plain (actionTriggerChecks m i)
-  unfolding actionTriggerChecks
+  action-triggers-plain : (i : ℕ) → Plain (action_trigger_checks m i)
+  unfolding action_trigger_checks
   action-triggers-plain i = search levels-plain
 
-  port-triggers-plain : (i : ℕ) → Plain (portTriggerChecks m i)
-  unfolding portTriggerChecks
+  port-triggers-plain : (i : ℕ) → Plain (port_trigger_checks m i)
+  unfolding port_trigger_checks
   port-triggers-plain i = search levels-plain
 
-  enabled-modes-plain : (i : ℕ) → Plain (enabledModesChecks m i)
-  unfolding enabledModesChecks isSlot numbers
+  enabled-modes-plain : (i : ℕ) → Plain (enabled_modes_checks m i)
+  unfolding enabled_modes_checks is_slot numbers
   enabled-modes-plain i = search plain-laws depth 20
 
-  scope-lists-plain : (i : ℕ) → Plain (scopeListChecks m i)
-  unfolding scopeListChecks
+  scope-lists-plain : (i : ℕ) → Plain (scope_list_checks m i)
+  unfolding scope_list_checks
   scope-lists-plain i = search (plain-append, levels-plain, lifecycles-plain)
 
-  shutdown-actions-plain : (i : ℕ) → Plain (shutdownActionChecks m i)
-  unfolding shutdownActionChecks isSlot numbers
+  shutdown-actions-plain : (i : ℕ) → Plain (shutdown_action_checks m i)
+  unfolding shutdown_action_checks is_slot numbers
   shutdown-actions-plain i = search plain-laws depth 20
 
-  routes-plain : (i : ℕ) → Plain (routeChecks m i)
-  unfolding routeChecks isSlot numbers
+  routes-plain : (i : ℕ) → Plain (route_checks m i)
+  unfolding route_checks is_slot numbers
   routes-plain i = search plain-laws depth 20
 
-  bindings-plain : (i : ℕ) → Plain (bindingIdChecks m i)
-  unfolding bindingIdChecks isSlot numbers
+  bindings-plain : (i : ℕ) → Plain (binding_id_checks m i)
+  unfolding binding_id_checks is_slot numbers
   bindings-plain i = search plain-laws depth 20
 
   -- the passes after those over reactors and actions
-  others-plain : Plain (checksOf m (drop 5 passes))
-  unfolding checksOf passChecks passes rowPasses listPasses isSlot numbers
+  others-plain : Plain (checks_of m (drop 5 passes))
+  unfolding checks_of pass_checks passes row_passes list_passes is_slot numbers
   others-plain =
       search
       (plain-laws, ports-plain, reactions-plain, modes-plain, scopes-plain, action-triggers-plain, port-triggers-plain, enabled-modes-plain, scope-lists-plain, lifecycle-plain, shutdown-actions-plain, routes-plain, bindings-plain)
       depth 60 fits 4000
 
   -- what is left of the slot checks: one test for each reactor and each action
-  pub reactor-slots : (i : ℕ) → slotsHold (reactorChecks m i) ≡ ltb (m.reactors i).state_slot m.stateSlots
-  unfolding reactorChecks slotsHold isSlot numbers
+  pub reactor-slots : (i : ℕ) → slots_hold (reactor_checks m i) ≡ ltb (m.reactors i).state_slot m.state_slots
+  unfolding reactor_checks slots_hold is_slot numbers
   reactor-slots i =
       let row = m.reactors i in
-      ap (ltb row.state_slot m.stateSlots &&◌) (plain-holds (plain-append (initial-mode m.rows i row.modes.0 row.initial_mode) (bank i row.bank)))
+      ap (ltb row.state_slot m.state_slots &&◌) (plain-holds (plain-append (initial-mode m.rows i row.modes.0 row.initial_mode) (bank i row.bank)))
       ∙ and-true _
 
-  pub action-slots : (i : ℕ) → slotsHold (actionChecks m i) ≡ ltb (m.actions i).slot m.actionSlots
-  unfolding actionChecks slotsHold isSlot numbers
+  pub action-slots : (i : ℕ) → slots_hold (action_checks m i) ≡ ltb (m.actions i).slot m.action_slots
+  unfolding action_checks slots_hold is_slot numbers
   action-slots i =
       let row = m.actions i in
-      ap (ltb row.slot m.actionSlots &&◌) (slots-append (actionBindingChecks m.rows m.bindings i row.standard row.binding) _ ∙ rw (plain-holds (action-binding m.rows m.bindings i row.standard row.binding)))
+      ap (ltb row.slot m.action_slots &&◌) (slots-append (action_binding_checks m.rows m.bindings i row.standard row.binding) _ ∙ rw (plain-holds (action-binding m.rows m.bindings i row.standard row.binding)))
       ∙ and-true _
 
-  pass-slots : (f : Pass) (fs : List Pass) → slotsHold (checksOf m (f ∷ fs)) ≡ (slotsHold (passChecks m f) && slotsHold (checksOf m fs))
-  unfolding checksOf
-  pass-slots f fs = slots-append (passChecks m f) (checksOf m fs)
+  pass-slots : (f : Pass) (fs : List Pass) → slots_hold (checks_of m (f ∷ fs)) ≡ (slots_hold (pass_checks m f) && slots_hold (checks_of m fs))
+  unfolding checks_of
+  pass-slots f fs = slots-append (pass_checks m f) (checks_of m fs)
 
-  pass-plain : (f : Pass) (fs : List Pass) → ((i : ℕ) → Plain (f.checks m i)) → slotsHold (checksOf m (f ∷ fs)) ≡ slotsHold (checksOf m fs)
-  unfolding passChecks
+  pass-plain : (f : Pass) (fs : List Pass) → ((i : ℕ) → Plain (f.checks m i)) → slots_hold (checks_of m (f ∷ fs)) ≡ slots_hold (checks_of m fs)
+  unfolding pass_checks
   pass-plain f fs h = pass-slots f fs ∙ rw (plain-holds (plain-run h 0 (f.items m.rows)))
 
-  pub enclave-slots : slotsHold (enclaveChecks m) ≡ (slotsHold (run (reactorChecks m) 0 (m.rows 2)) && slotsHold (run (actionChecks m) 0 (m.rows 3)))
-  unfolding enclaveChecks passes rowPasses passChecks isSlot numbers
+  pub enclave-slots : slots_hold (enclave_checks m) ≡ (slots_hold (run (reactor_checks m) 0 (m.rows 2)) && slots_hold (run (action_checks m) 0 (m.rows 3)))
+  unfolding enclave_checks passes row_passes pass_checks is_slot numbers
   enclave-slots =
-      pass-plain (times 8 lengthChecks) (drop 1 passes) (λ i. more refl none)
-      ∙ pass-plain (times 1 rootChecks) (drop 2 passes) (λ i. more refl none)
-      ∙ pass-plain (times 1 enclaveIdChecks) (drop 3 passes) (λ i. more refl none)
-      ∙ pass-slots (over 2 reactorChecks) (drop 4 passes)
-      ∙ ap (slotsHold (run (reactorChecks m) 0 (m.rows 2)) &&◌) (pass-slots (over 3 actionChecks) (drop 5 passes) ∙ rw (plain-holds others-plain) (and-true _))
+      pass-plain (times 8 length_checks) (drop 1 passes) (λ i. more refl none)
+      ∙ pass-plain (times 1 root_checks) (drop 2 passes) (λ i. more refl none)
+      ∙ pass-plain (times 1 enclave_id_checks) (drop 3 passes) (λ i. more refl none)
+      ∙ pass-slots (over 2 reactor_checks) (drop 4 passes)
+      ∙ ap (slots_hold (run (reactor_checks m) 0 (m.rows 2)) &&◌) (pass-slots (over 3 action_checks) (drop 5 passes) ∙ rw (plain-holds others-plain) (and-true _))

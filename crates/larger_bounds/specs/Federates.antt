@@ -3,18 +3,18 @@ use Rattle.std.specs.Prelude.{ℕ, ◌≡◌, List}
 use Rattle.answers.specs.declared.Outcome.TheVariants.{Passed}
 use Rattle.answers.specs.Checks.{first}
 use Rattle.packing.specs.declared.PackKind.TheVariants.{Federate}
-use Rattle.packing.specs.Packing.{packingChecks}
-use Rattle.federate.specs.Answer.{federateAnswer}
+use Rattle.packing.specs.Packing.{packing_checks}
+use Rattle.federate.specs.Answer.{federate_answer}
 use Rattle.larger_bounds.specs.Packs.{DifferInStorage, NoBoundSmaller, SlotAnswer}
 
 -- a federate pack that passes the packing rules with the texts lent
 abbrev pub FederatePacked : List ℕ → List ℕ → List ℕ → Type 0
-FederatePacked p batch house = first (packingChecks Federate p batch house) ≡ Passed
+FederatePacked p batch house = first (packing_checks Federate p batch house) ≡ Passed
 
 -- any answer other than a slot refusal is the answer with larger bounds: the same enclaves and links, or the same refusal
 abbrev pub FederateAnswerStays : Type 0
 FederateAnswerStays =
     (p q batch house : List ℕ) → FederatePacked p batch house → FederatePacked q batch house
     → DifferInStorage p q → NoBoundSmaller p q
-    → (SlotAnswer (federateAnswer p batch house) → ⊥)
-    → federateAnswer q batch house ≡ federateAnswer p batch house
+    → (SlotAnswer (federate_answer p batch house) → ⊥)
+    → federate_answer q batch house ≡ federate_answer p batch house

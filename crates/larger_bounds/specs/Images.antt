@@ -2,14 +2,14 @@
 use Rattle.std.specs.Prelude.{ℕ, ◌<◌, ◌≤◌, ◌≡◌, ◌↔◌}
 use Rattle.answers.specs.declared.Outcome.TheVariants.{Passed}
 use Rattle.answers.specs.Checks.{first}
-use Rattle.answers.specs.Slots.{SlotRefusal, withoutSlots}
+use Rattle.answers.specs.Slots.{SlotRefusal, without_slots}
 use Rattle.checks.specs.Image.{Image}
 use Rattle.scope_checks.specs.Links.{links}
-use Rattle.enclave.specs.Passes.{enclaveChecks}
+use Rattle.enclave.specs.Passes.{enclave_checks}
 
 -- the image with other slot bounds
-abbrev pub withBounds : Image → ℕ → ℕ → Image
-withBounds m state action =
+abbrev pub with_bounds : Image → ℕ → ℕ → Image
+with_bounds m state action =
     record {
       rows = m.rows;
       reactors = m.reactors;
@@ -24,31 +24,31 @@ withBounds m state action =
       lifecycles = m.lifecycles;
       routes = m.routes;
       bindings = m.bindings;
-      enclaveId = m.enclaveId;
+      enclave_id = m.enclave_id;
       text = m.text;
-      stateSlots = state;
-      actionSlots = action;
+      state_slots = state;
+      action_slots = action;
     }
 
 -- an answer other than a slot refusal is the answer with larger bounds (the link count does not depend on them)
 abbrev pub LargerBounds : Type 0
 LargerBounds =
-    (m : Image) (state action : ℕ) → m.stateSlots ≤ state → m.actionSlots ≤ action
-    → (SlotRefusal (first (enclaveChecks m)) → ⊥)
-    → first (enclaveChecks (withBounds m state action)) ≡ first (enclaveChecks m)
+    (m : Image) (state action : ℕ) → m.state_slots ≤ state → m.action_slots ≤ action
+    → (SlotRefusal (first (enclave_checks m)) → ⊥)
+    → first (enclave_checks (with_bounds m state action)) ≡ first (enclave_checks m)
 
 -- every state slot used, and every action slot used, is below its bound
 abbrev pub SlotsBelow : Image → Type 0
 SlotsBelow m =
-    ((i : ℕ) → i < m.rows 2 → (m.reactors i).state_slot < m.stateSlots)
-    × ((i : ℕ) → i < m.rows 3 → (m.actions i).slot < m.actionSlots)
+    ((i : ℕ) → i < m.rows 2 → (m.reactors i).state_slot < m.state_slots)
+    × ((i : ℕ) → i < m.rows 3 → (m.actions i).slot < m.action_slots)
 
 -- accepted exactly when passing with the slot checks left out and every slot is below its bound
 abbrev pub AcceptedExactly : Type 0
 AcceptedExactly =
     (m : Image)
-    → (first (enclaveChecks m) ≡ Passed) ↔ ((first (withoutSlots (enclaveChecks m)) ≡ Passed) × SlotsBelow m)
+    → (first (enclave_checks m) ≡ Passed) ↔ ((first (without_slots (enclave_checks m)) ≡ Passed) × SlotsBelow m)
 
 -- the link count does not depend on the bounds
 abbrev pub SameLinks : Type 0
-SameLinks = (m : Image) (state action : ℕ) → links (withBounds m state action) ≡ links m
+SameLinks = (m : Image) (state action : ℕ) → links (with_bounds m state action) ≡ links m

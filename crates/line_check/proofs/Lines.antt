@@ -13,8 +13,8 @@ use Rattle.io.specs.Digits.{last_digits, IsDigitCount}
 use Rattle.line_check.specs.declared.files.FileRead.{FileRead}
 use Rattle.line_check.specs.declared.files.Files.{Files}
 use Rattle.line_check.specs.declared.files.Files.TheVariants as files
-use Rattle.line_check.specs.Files.{isMissing, isTooLong, Within, together, Inside}
-use Rattle.line_check.specs.Line.{placesFrom, decimal, numbersText}
+use Rattle.line_check.specs.Files.{is_missing, is_too_long, Within, together, Inside}
+use Rattle.line_check.specs.Line.{places_from, decimal, numbers_text}
 
 -- after `a` bytes the part that begins with a text of n bytes
 pub put-text : (a n : ℕ) (out text rest post : List ℕ) {ys : List ℕ} → a ≤ length out → n ≡ length text → ys ≡ take (length text) text ++ rest → take (a + n) (take a out ++ (ys ++ post)) ≡ take a out ++ text
@@ -25,12 +25,12 @@ put-text a n out text rest post h e w =
     (take-append-add (take a out) (text ++ (rest ++ post)) (length text) ∙ ap (λ (zs : List ℕ). take a out ++ zs) (take-append_seam text (rest ++ post))))
 
 -- the fewest digits are as many as the definition counts
-places-are : (turns k n r : ℕ) → IsDigitCount 10 1 n r → 1 ≤ k → k ≤ r → r ≤ k + turns → r ≡ placesFrom turns k n
-unfolding placesFrom
+places-are : (turns k n r : ℕ) → IsDigitCount 10 1 n r → 1 ≤ k → k ≤ r → r ≤ k + turns → r ≡ places_from turns k n
+unfolding places_from
 places-are zero k n r f p l u = omega arith
 places-are (suc turns) k n r f p l u = by-test (ltb n (10 ^ k)) refl (λ h. places-are turns (suc k) n r f (omega arith) h (omega arith))
   where
-    by-test : (b : Bool) → ltb n (10 ^ k) ≡ b → (k < r → r ≡ placesFrom turns (suc k) n) → r ≡ cond b k (placesFrom turns (suc k) n)
+    by-test : (b : Bool) → ltb n (10 ^ k) ≡ b → (k < r → r ≡ places_from turns (suc k) n) → r ≡ cond b k (places_from turns (suc k) n)
     by-test true e more =
         let no_more : k < r → ⊥ = λ h. not-le_of_lt (ltb-true n (10 ^ k) e) (le_trans (pow-le-pow_right (zero-lt-suc 9) (omega arith)) (f.2 (omega arith))) in
         omega (arith, no_more)
@@ -49,16 +49,16 @@ pub digits_are : {n r : ℕ} {text : List ℕ} → IsDigitCount 10 1 n r → r �
 digits_are {n} {r} f u e = e ∙ ap (λ (k : ℕ). last_digits 10 k n) (places-are 19 1 n r f (omega arith) f.0 u)
 
 -- the numbers of a list and one more
-numbers-snoc : (ns : List ℕ) (n : ℕ) → numbersText (ns ++ (n ∷ [])) ≡ numbersText ns ++ (32 ∷ decimal n)
-unfolding numbersText
+numbers-snoc : (ns : List ℕ) (n : ℕ) → numbers_text (ns ++ (n ∷ [])) ≡ numbers_text ns ++ (32 ∷ decimal n)
+unfolding numbers_text
 numbers-snoc [] n = append-nil (32 ∷ decimal n)
-numbers-snoc (m ∷ ns) n = ap (λ (zs : List ℕ). (32 ∷ decimal m) ++ zs) (numbers-snoc ns n) ∙ sym (append_assoc (32 ∷ decimal m) (numbersText ns) (32 ∷ decimal n))
+numbers-snoc (m ∷ ns) n = ap (λ (zs : List ℕ). (32 ∷ decimal m) ++ zs) (numbers-snoc ns n) ∙ sym (append_assoc (32 ∷ decimal m) (numbers_text ns) (32 ∷ decimal n))
 
 -- after i numbers one more
-pub numbers-step : (xs values : List ℕ) (i : ℕ) {us ys : List ℕ} → us ≡ xs ++ numbersText (take i values) → i < length values → ys ≡ us ++ (32 ∷ decimal (get_or values i 0)) → ys ≡ xs ++ numbersText (take (suc i) values)
+pub numbers-step : (xs values : List ℕ) (i : ℕ) {us ys : List ℕ} → us ≡ xs ++ numbers_text (take i values) → i < length values → ys ≡ us ++ (32 ∷ decimal (get_or values i 0)) → ys ≡ xs ++ numbers_text (take (suc i) values)
 numbers-step xs values i h l e =
     rw (e, h, take-suc values i 0 l, numbers-snoc (take i values) (get_or values i 0))
-    (append_assoc xs (numbersText (take i values)) (32 ∷ decimal (get_or values i 0)))
+    (append_assoc xs (numbers_text (take i values)) (32 ∷ decimal (get_or values i 0)))
 
 -- a blank, and digits after it
 pub blank-before : (xs us ds : List ℕ) → us ≡ xs ++ (32 ∷ []) → us ++ ds ≡ xs ++ (32 ∷ ds)
@@ -77,7 +77,7 @@ inside-cases false true wp wb wh = tt
 inside-cases false false wp wb wh = (wp, (wb, wh))
 
 pub inside-together : (p b h : FileRead) {i j k : ℕ} → Within p i → Within b j → Within h k → Inside (together p b h) i j k
-inside-together p b h wp wb wh = inside-cases (isMissing p || (isMissing b || isMissing h)) (isTooLong p || (isTooLong b || isTooLong h)) wp wb wh
+inside-together p b h wp wb wh = inside-cases (is_missing p || (is_missing b || is_missing h)) (is_too_long p || (is_too_long b || is_too_long h)) wp wb wh
 
 -- what `Inside` says of three counts
 pub inside-read : (f : Files) (i j k : ℕ) {p b h : ℕ} → f ≡ files.Read p b h → Inside f i j k → (p ≤ i) × ((b ≤ j) × (h ≤ k))

@@ -3,9 +3,9 @@ use mathlib.Core.Path.{◌≡◌, refl}
 use Rattle.answers.specs.declared.Refusal.{Refusal}
 use Rattle.answers.specs.declared.Refusal.TheVariants.{Length, TextTooLong, TableOutOfPlace, StrayByte, IdentityOutside, NotUtf8, TableTooLarge, ReferenceOutOfBounds, RangeOutOfBounds, RangesNotMonotonic, EntriesNotSorted, DuplicateEntry, OwnershipMismatch, ScopeParentCycle, InvalidStableId, StableIdsNotSorted, DuplicateStableId, InvalidBankInfo, StorageBoundExceeded, BindingKindMismatch, BindingPresenceMismatch, DuplicateRouteHalf, RoutePairMismatch}
 use Rattle.answers.specs.Numbers.{numbers}
-use Rattle.line_check.specs.Line.{line, refused, answerLine}
+use Rattle.line_check.specs.Line.{line, refused, answer_line}
 
-pub refused-line : (r : Refusal) → line refused (numbers r) ≡ answerLine (numbers r)
+pub refused-line : (r : Refusal) → line refused (numbers r) ≡ answer_line (numbers r)
 unfolding numbers
 refused-line Length = refl
 refused-line (TextTooLong text) = refl

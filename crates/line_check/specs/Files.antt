@@ -5,35 +5,35 @@ use Rattle.line_check.specs.declared.files.FileRead.TheVariants as file
 use Rattle.line_check.specs.declared.files.Files.{Files}
 use Rattle.line_check.specs.declared.files.Files.TheVariants as files
 
-abbrev pub bytesRead : FileRead → ℕ
-bytesRead (file.Read n) = n
-bytesRead file.NoFile = 0
-bytesRead file.TooLong = 0
+abbrev pub bytes_read : FileRead → ℕ
+bytes_read (file.Read n) = n
+bytes_read file.NoFile = 0
+bytes_read file.TooLong = 0
 
-abbrev pub isMissing : FileRead → Bool
-isMissing (file.Read n) = false
-isMissing file.NoFile = true
-isMissing file.TooLong = false
+abbrev pub is_missing : FileRead → Bool
+is_missing (file.Read n) = false
+is_missing file.NoFile = true
+is_missing file.TooLong = false
 
-abbrev pub isTooLong : FileRead → Bool
-isTooLong (file.Read n) = false
-isTooLong file.NoFile = false
-isTooLong file.TooLong = true
+abbrev pub is_too_long : FileRead → Bool
+is_too_long (file.Read n) = false
+is_too_long file.NoFile = false
+is_too_long file.TooLong = true
 
 -- what was read lies in a buffer of k bytes
 abbrev pub Within : FileRead → ℕ → Type 0
-Within f k = bytesRead f ≤ k
+Within f k = bytes_read f ≤ k
 
 -- `no file` if a file cannot be read; else `too long` if one is longer
 abbrev pub together : FileRead → FileRead → FileRead → Files
 together pack batch house =
     cond
-    (isMissing pack || (isMissing batch || isMissing house))
+    (is_missing pack || (is_missing batch || is_missing house))
     files.NoFile
     (cond
-    (isTooLong pack || (isTooLong batch || isTooLong house))
+    (is_too_long pack || (is_too_long batch || is_too_long house))
     files.TooLong
-    (files.Read (bytesRead pack) (bytesRead batch) (bytesRead house)))
+    (files.Read (bytes_read pack) (bytes_read batch) (bytes_read house)))
 
 -- the bytes read of three buffers lie in them
 abbrev pub Inside : Files → ℕ → ℕ → ℕ → Type 0

@@ -1,6 +1,6 @@
 // Reading a file into a lent buffer, and what three such reads come to.
 ghost use Rattle.std.specs.Prelude.{◌≡◌, length};
-ghost use Rattle.line_check.specs.Files.{bytesRead, isMissing, isTooLong, Within, together};
+ghost use Rattle.line_check.specs.Files.{bytes_read, is_missing, is_too_long, Within, together};
 
 // What reading one file came to.
 #[derive(Drop)]
@@ -71,7 +71,7 @@ pub fn read_file(path: &[u8], buf: &mut [u8]) -> FileRead
 }
 
 fn bytes_read(file: FileRead) -> usize
-    ensures { result ≡ bytesRead file }
+    ensures { result ≡ bytes_read file }
 {
     match file {
         FileRead::Read(n) => n,
@@ -81,7 +81,7 @@ fn bytes_read(file: FileRead) -> usize
 }
 
 fn is_missing(file: FileRead) -> bool
-    ensures { result ≡ isMissing file }
+    ensures { result ≡ is_missing file }
 {
     match file {
         FileRead::Read(_) => false,
@@ -91,7 +91,7 @@ fn is_missing(file: FileRead) -> bool
 }
 
 fn is_too_long(file: FileRead) -> bool
-    ensures { result ≡ isTooLong file }
+    ensures { result ≡ is_too_long file }
 {
     match file {
         FileRead::Read(_) => false,

@@ -1,9 +1,9 @@
 // The bytes of the line that the program prints.
 ghost use Rattle.std.specs.Prelude.{◌≡◌, [], ◌∷◌, ◌++◌, ◌+◌, ◌≤◌, min, length, take};
-ghost use Rattle.federate.specs.Answer.{federateNumbers, federateAnswer};
+ghost use Rattle.federate.specs.Answer.{federate_numbers, federate_answer};
 ghost use Rattle.io.specs.Counts.{IsPrefixLen};
 ghost use Rattle.line_check.specs.Files.{Inside};
-ghost use Rattle.line_check.specs.Line.{decimal, numbersText, line, answerLine, fileLine};
+ghost use Rattle.line_check.specs.Line.{decimal, numbers_text, line, answer_line, file_line};
 
 use crate::files::Files;
 use answers::NumberList;
@@ -42,7 +42,7 @@ fn least(a: usize, b: usize) -> usize
 fn put_numbers(out: &mut [u8], used: usize, list: NumberList) -> usize
     requires { used + 168 ≤ length out.old }
     ensures upper_bound { result ≤ used + 168 }
-    ensures out_after { take result out.new ≡ take used out.old ++ numbersText (take list.len list.values) }
+    ensures out_after { take result out.new ≡ take used out.old ++ numbers_text (take list.len list.values) }
 {
     let len = least(list.len, 8);
     let values = list.values;
@@ -79,7 +79,7 @@ fn two(a: u64, b: u64) -> NumberList
 fn put_answer(out: &mut [u8], answer: FederateAnswer) -> usize
     requires { 192 ≤ length out.old }
     ensures upper_bound { result ≤ length out.new }
-    ensures out_after { take result out.new ≡ answerLine (federateNumbers answer) }
+    ensures out_after { take result out.new ≡ answer_line (federate_numbers answer) }
 {
     match answer {
         FederateAnswer::Accepted { enclaves, links } => {
@@ -93,7 +93,7 @@ fn put_answer(out: &mut [u8], answer: FederateAnswer) -> usize
 fn put_checked<'a>(out: &mut [u8], pack: &'a [u8], batch: &'a [u8], house: &'a [u8]) -> usize
     requires { 192 ≤ length out.old }
     ensures upper_bound { result ≤ length out.new }
-    ensures out_after { take result out.new ≡ answerLine (federateAnswer pack.now batch.now house.now) }
+    ensures out_after { take result out.new ≡ answer_line (federate_answer pack.now batch.now house.now) }
 {
     put_answer(out, check_federate(pack, batch, house))
 }
@@ -109,7 +109,7 @@ pub fn put_line<'a>(
     requires in_bounds { 192 ≤ length out.old }
     requires inside { Inside files (length pack.now) (length batch.now) (length house.now) }
     ensures prefix_len { IsPrefixLen result out.new }
-    ensures out_after { take result out.new ≡ fileLine files pack.now batch.now house.now }
+    ensures out_after { take result out.new ≡ file_line files pack.now batch.now house.now }
 {
     match files {
         Files::NoFile => put(out, 0, b"no file\n"),

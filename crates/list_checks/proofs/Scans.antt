@@ -15,9 +15,9 @@ use Rattle.answers.proofs.Laws.{none, pass, fail, decide}
 use Rattle.answers.proofs.Loops.{Remaining, remaining-start, remaining-step, remaining-stop, remaining-none}
 use Rattle.answers.specs.Fields as field
 use Rattle.answers.specs.declared.Refusal.TheVariants.{ReferenceOutOfBounds}
-use Rattle.schema.specs.Rows.{index_at, startupAt}
+use Rattle.schema.specs.Rows.{index_at, startup_at}
 use Rattle.checks.specs.Image.{rows_of, image}
-use Rattle.list_checks.specs.ListTables.{indexChecks, startupChecks}
+use Rattle.list_checks.specs.ListTables.{index_checks, startup_checks}
 use Rattle.list_checks.specs.FirstPast.{first_word, FirstPast}
 
 -- the first i of n values are below the bound
@@ -70,19 +70,19 @@ module _ (values : ℕ → ℕ) (bound n : ℕ) (refusal : ℕ → Refusal) wher
 
 -- tables of one index, and of startups, whose first W is their action; k is the number of rows as the code has it
 module _ (p s : List ℕ) (t f g : ℕ) where
-  pub indexes-passed : {r k : ℕ} → FirstPast (first_word p s t) (rows_of s g) (rows_of s t) r → k ≡ rows_of s t → k ≤ r → Decides (run (indexChecks t f g (image p [] [] s 0)) 0 (rows_of s t)) Passed
+  pub indexes-passed : {r k : ℕ} → FirstPast (first_word p s t) (rows_of s g) (rows_of s t) r → k ≡ rows_of s t → k ≤ r → Decides (run (index_checks t f g (image p [] [] s 0)) 0 (rows_of s t)) Passed
   unfolding index_at
   indexes-passed x e h = scan-passed (first_word p s t) (rows_of s g) (rows_of s t) (λ i. ReferenceOutOfBounds t i f g (first_word p s t i)) x (rw (← e) h)
 
-  pub indexes-stopped : {r k : ℕ} {o : Outcome} → FirstPast (first_word p s t) (rows_of s g) (rows_of s t) r → k ≡ rows_of s t → r < k → Decides (indexChecks t f g (image p [] [] s 0) r) o → Decides (run (indexChecks t f g (image p [] [] s 0)) 0 (rows_of s t)) o
+  pub indexes-stopped : {r k : ℕ} {o : Outcome} → FirstPast (first_word p s t) (rows_of s g) (rows_of s t) r → k ≡ rows_of s t → r < k → Decides (index_checks t f g (image p [] [] s 0) r) o → Decides (run (index_checks t f g (image p [] [] s 0)) 0 (rows_of s t)) o
   unfolding index_at
   indexes-stopped x e h d = scan-stopped (first_word p s t) (rows_of s g) (rows_of s t) (λ i. ReferenceOutOfBounds t i f g (first_word p s t i)) x (rw (← e) h) d
 
 module _ (p s : List ℕ) (t : ℕ) where
-  pub startups-passed : {r k : ℕ} → FirstPast (first_word p s t) (rows_of s 3) (rows_of s t) r → k ≡ rows_of s t → k ≤ r → Decides (run (startupChecks t (image p [] [] s 0)) 0 (rows_of s t)) Passed
-  unfolding startupAt
+  pub startups-passed : {r k : ℕ} → FirstPast (first_word p s t) (rows_of s 3) (rows_of s t) r → k ≡ rows_of s t → k ≤ r → Decides (run (startup_checks t (image p [] [] s 0)) 0 (rows_of s t)) Passed
+  unfolding startup_at
   startups-passed x e h = scan-passed (first_word p s t) (rows_of s 3) (rows_of s t) (λ i. ReferenceOutOfBounds t i field.action 3 (first_word p s t i)) x (rw (← e) h)
 
-  pub startups-stopped : {r k : ℕ} {o : Outcome} → FirstPast (first_word p s t) (rows_of s 3) (rows_of s t) r → k ≡ rows_of s t → r < k → Decides (startupChecks t (image p [] [] s 0) r) o → Decides (run (startupChecks t (image p [] [] s 0)) 0 (rows_of s t)) o
-  unfolding startupAt
+  pub startups-stopped : {r k : ℕ} {o : Outcome} → FirstPast (first_word p s t) (rows_of s 3) (rows_of s t) r → k ≡ rows_of s t → r < k → Decides (startup_checks t (image p [] [] s 0) r) o → Decides (run (startup_checks t (image p [] [] s 0)) 0 (rows_of s t)) o
+  unfolding startup_at
   startups-stopped x e h d = scan-stopped (first_word p s t) (rows_of s 3) (rows_of s t) (λ i. ReferenceOutOfBounds t i field.action 3 (first_word p s t i)) x (rw (← e) h) d

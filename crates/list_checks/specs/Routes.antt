@@ -8,41 +8,41 @@ use Rattle.answers.specs.Checks.{Check, need}
 use Rattle.schema.specs.declared.index.RouteDirection.{RouteDirection}
 use Rattle.schema.specs.declared.index.RouteDirection.TheVariants.{Inbound, Outbound}
 use Rattle.schema.specs.declared.rows.RouteImage.{RouteImage}
-use Rattle.schema.specs.Rows.{routeAt}
+use Rattle.schema.specs.Rows.{route_at}
 use Rattle.checks.specs.Image.{Image, start_of}
-use Rattle.checks.specs.Refs.{refTo}
-use Rattle.checks.specs.Lists.{afterFirst}
-use Rattle.checks.specs.Identities.{idCheck, isEqual, isLess, idOrderChecks}
+use Rattle.checks.specs.Refs.{ref_to}
+use Rattle.checks.specs.Lists.{after_first}
+use Rattle.checks.specs.Identities.{id_check, is_equal, is_less, id_order_checks}
 
 -- the route at row i
-abbrev pub routesAt : List ℕ → List ℕ → ℕ → RouteImage
-routesAt p s i = routeAt p (start_of s 23 + i)
+abbrev pub routes_at : List ℕ → List ℕ → ℕ → RouteImage
+routes_at p s i = route_at p (start_of s 23 + i)
 
 -- 0 inbound, 1 outbound
-abbrev pub directionNumber : RouteDirection → ℕ
-directionNumber Inbound = 0
-directionNumber Outbound = 1
+abbrev pub direction_number : RouteDirection → ℕ
+direction_number Inbound = 0
+direction_number Outbound = 1
 
 -- boundaries rise; of one boundary the inbound half comes before the outbound one, and neither twice
-abbrev pub routeOrderChecks : (IdentityPlace → List ℕ) → ℕ → IdentityPlace → RouteDirection → IdentityPlace → RouteDirection → List Check
-routeOrderChecks text i id d before e =
-    need (not (isLess (compared (text id) (text before)))) (StableIdsNotSorted field.kindBoundary i id)
-    ∷ need (not (isEqual (compared (text id) (text before)) && eqb (directionNumber d) (directionNumber e))) (DuplicateRouteHalf id (directionNumber d))
-    ∷ need (not (isEqual (compared (text id) (text before)) && eqb (directionNumber e) 1)) (EntriesNotSorted 23 i)
+abbrev pub route_order_checks : (IdentityPlace → List ℕ) → ℕ → IdentityPlace → RouteDirection → IdentityPlace → RouteDirection → List Check
+route_order_checks text i id d before e =
+    need (not (is_less (compared (text id) (text before)))) (StableIdsNotSorted field.kind_boundary i id)
+    ∷ need (not (is_equal (compared (text id) (text before)) && eqb (direction_number d) (direction_number e))) (DuplicateRouteHalf id (direction_number d))
+    ∷ need (not (is_equal (compared (text id) (text before)) && eqb (direction_number e) 1)) (EntriesNotSorted 23 i)
     ∷ []
 
 -- of one boundary, by its halves' directions
-abbrev pub sameBoundaryChecks : ℕ → IdentityPlace → ℕ → ℕ → List Check
-sameBoundaryChecks i id d e =
+abbrev pub same_boundary_checks : ℕ → IdentityPlace → ℕ → ℕ → List Check
+same_boundary_checks i id d e =
     need (not (eqb d e)) (DuplicateRouteHalf id d) ∷ need (not (eqb e 1)) (EntriesNotSorted 23 i) ∷ []
 
-unfoldable pub routeChecks : Image → ℕ → List Check
-routeChecks m i =
-    (idCheck m.text field.kindBoundary i (m.routes i).boundary ∷ [])
-    ++ (afterFirst i (routeOrderChecks m.text i (m.routes i).boundary (m.routes i).direction (m.routes (i - 1)).boundary (m.routes (i - 1)).direction)
-    ++ (refTo m.rows 23 i field.localPort 4 (m.routes i).port ∷ []))
+unfoldable pub route_checks : Image → ℕ → List Check
+route_checks m i =
+    (id_check m.text field.kind_boundary i (m.routes i).boundary ∷ [])
+    ++ (after_first i (route_order_checks m.text i (m.routes i).boundary (m.routes i).direction (m.routes (i - 1)).boundary (m.routes (i - 1)).direction)
+    ++ (ref_to m.rows 23 i field.local_port 4 (m.routes i).port ∷ []))
 
-unfoldable pub bindingIdChecks : Image → ℕ → List Check
-bindingIdChecks m i =
-    (idCheck m.text field.kindBinding i (m.bindings i).id ∷ [])
-    ++ afterFirst i (idOrderChecks m.text field.kindBinding i (m.bindings i).id (m.bindings (i - 1)).id)
+unfoldable pub binding_id_checks : Image → ℕ → List Check
+binding_id_checks m i =
+    (id_check m.text field.kind_binding i (m.bindings i).id ∷ [])
+    ++ after_first i (id_order_checks m.text field.kind_binding i (m.bindings i).id (m.bindings (i - 1)).id)

@@ -1,9 +1,9 @@
 // The checks of the lists of reactions by level: triggers, the lists of scopes, and every entry of their tables.
 ghost use Rattle.std.specs.Prelude.{◌≡◌, [], ◌<◌};
 ghost use Rattle.answers.specs.Checks.{first, run, Decides};
-ghost use Rattle.answers.specs.PassesIf.{isPassed, PassesIf};
+ghost use Rattle.answers.specs.PassesIf.{is_passed, PassesIf};
 ghost use Rattle.checks.specs.Image.{image, rows_of, Rising, Within};
-ghost use Rattle.list_checks.specs.ListTables.{actionTriggerChecks, portTriggerChecks, scopeListChecks, levelEntryChecks, lifecycleEntryChecks, shutdownReactionChecks};
+ghost use Rattle.list_checks.specs.ListTables.{action_trigger_checks, port_trigger_checks, scope_list_checks, level_entry_checks, lifecycle_entry_checks, shutdown_reaction_checks};
 ghost use Rattle.schema.specs.Rows.{Whole};
 
 use answers::Outcome;
@@ -18,7 +18,7 @@ use schema::{TableStarts, parts, read_lists};
 // The triggers of action i.
 fn check_action_triggers(p: &[u8], s: &TableStarts, i: u32) -> Outcome
     requires { Whole p.now × (Rising s.now × (Within p.now s.now × (i < rows_of s.now 3))) }
-    ensures { Decides (actionTriggerChecks (image p.now [] [] s.now 0) i) result }
+    ensures { Decides (action_trigger_checks (image p.now [] [] s.now 0) i) result }
 {
     let range = parts::action_triggers_of(p, refs::row_of(s, ActionImage::TABLE, i));
     lists::validate_levels(p, s, ReactionTrigger::TABLE, range.start, range.len)
@@ -27,7 +27,7 @@ fn check_action_triggers(p: &[u8], s: &TableStarts, i: u32) -> Outcome
 // The same as a quick test, whose answer stays in a register.
 fn action_triggers_pass(p: &[u8], s: &TableStarts, i: u32) -> bool
     requires { Whole p.now × (Rising s.now × (Within p.now s.now × (i < rows_of s.now 3))) }
-    ensures { PassesIf (actionTriggerChecks (image p.now [] [] s.now 0) i) result }
+    ensures { PassesIf (action_trigger_checks (image p.now [] [] s.now 0) i) result }
 {
     let n = refs::row_of(s, ActionImage::TABLE, i);
     let range = parts::action_triggers_of(p, n);
@@ -37,7 +37,7 @@ fn action_triggers_pass(p: &[u8], s: &TableStarts, i: u32) -> bool
 // The triggers of every action.
 pub fn check_triggers_of_actions(p: &[u8], s: &TableStarts) -> Outcome
     requires { Whole p.now × (Rising s.now × Within p.now s.now) }
-    ensures { Decides (run (actionTriggerChecks (image p.now [] [] s.now 0)) 0 (rows_of s.now 3)) result }
+    ensures { Decides (run (action_trigger_checks (image p.now [] [] s.now 0)) 0 (rows_of s.now 3)) result }
 {
     let rows = refs::rows_of(s, ActionImage::TABLE);
     let mut i = 0;
@@ -57,7 +57,7 @@ pub fn check_triggers_of_actions(p: &[u8], s: &TableStarts) -> Outcome
 // The triggers of port i.
 fn check_port_triggers(p: &[u8], s: &TableStarts, i: u32) -> Outcome
     requires { Whole p.now × (Rising s.now × (Within p.now s.now × (i < rows_of s.now 4))) }
-    ensures { Decides (portTriggerChecks (image p.now [] [] s.now 0) i) result }
+    ensures { Decides (port_trigger_checks (image p.now [] [] s.now 0) i) result }
 {
     let range = parts::port_triggers_of(p, refs::row_of(s, PortImage::TABLE, i));
     lists::validate_levels(p, s, ReactionTrigger::TABLE, range.start, range.len)
@@ -66,7 +66,7 @@ fn check_port_triggers(p: &[u8], s: &TableStarts, i: u32) -> Outcome
 // The same as a quick test, whose answer stays in a register.
 fn port_triggers_pass(p: &[u8], s: &TableStarts, i: u32) -> bool
     requires { Whole p.now × (Rising s.now × (Within p.now s.now × (i < rows_of s.now 4))) }
-    ensures { PassesIf (portTriggerChecks (image p.now [] [] s.now 0) i) result }
+    ensures { PassesIf (port_trigger_checks (image p.now [] [] s.now 0) i) result }
 {
     let n = refs::row_of(s, PortImage::TABLE, i);
     let range = parts::port_triggers_of(p, n);
@@ -76,7 +76,7 @@ fn port_triggers_pass(p: &[u8], s: &TableStarts, i: u32) -> bool
 // The triggers of every port.
 pub fn check_triggers_of_ports(p: &[u8], s: &TableStarts) -> Outcome
     requires { Whole p.now × (Rising s.now × Within p.now s.now) }
-    ensures { Decides (run (portTriggerChecks (image p.now [] [] s.now 0)) 0 (rows_of s.now 4)) result }
+    ensures { Decides (run (port_trigger_checks (image p.now [] [] s.now 0)) 0 (rows_of s.now 4)) result }
 {
     let rows = refs::rows_of(s, PortImage::TABLE);
     let mut i = 0;
@@ -96,7 +96,7 @@ pub fn check_triggers_of_ports(p: &[u8], s: &TableStarts) -> Outcome
 // The reset, startup and shutdown reactions of scope i.
 fn check_scope_lists(p: &[u8], s: &TableStarts, i: u32) -> Outcome
     requires { Whole p.now × (Rising s.now × (Within p.now s.now × (i < rows_of s.now 7))) }
-    ensures { Decides (scopeListChecks (image p.now [] [] s.now 0) i) result }
+    ensures { Decides (scope_list_checks (image p.now [] [] s.now 0) i) result }
 {
     let n = refs::row_of(s, ScopeImage::TABLE, i);
     let reset = parts::scope_reset_reactions_of(p, n);
@@ -117,7 +117,7 @@ fn check_scope_lists(p: &[u8], s: &TableStarts, i: u32) -> Outcome
 // The lists of every scope.
 pub fn check_lists_of_scopes(p: &[u8], s: &TableStarts) -> Outcome
     requires { Whole p.now × (Rising s.now × Within p.now s.now) }
-    ensures { Decides (run (scopeListChecks (image p.now [] [] s.now 0)) 0 (rows_of s.now 7)) result }
+    ensures { Decides (run (scope_list_checks (image p.now [] [] s.now 0)) 0 (rows_of s.now 7)) result }
 {
     let rows = refs::rows_of(s, ScopeImage::TABLE);
     let mut i = 0;
@@ -134,7 +134,7 @@ pub fn check_lists_of_scopes(p: &[u8], s: &TableStarts) -> Outcome
 // Entry i of a table of reactions by level.
 fn check_level_entry(p: &[u8], s: &TableStarts, table: u8, i: u32) -> Outcome
     requires { Whole p.now × (Rising s.now × (Within p.now s.now × (table < 25))) }
-    ensures { Decides (levelEntryChecks table (image p.now [] [] s.now 0) i) result }
+    ensures { Decides (level_entry_checks table (image p.now [] [] s.now 0) i) result }
 {
     let entry = read_lists::level_at(p, refs::row_number(s, table, i));
     lists::validate_level_ref(p, s, table, i, entry)
@@ -143,7 +143,7 @@ fn check_level_entry(p: &[u8], s: &TableStarts, table: u8, i: u32) -> Outcome
 // Every entry of a table of reactions by level, whether or not some range covers it.
 pub fn check_level_entries(p: &[u8], s: &TableStarts, table: u8) -> Outcome
     requires { Whole p.now × (Rising s.now × (Within p.now s.now × (table < 25))) }
-    ensures { Decides (run (levelEntryChecks table (image p.now [] [] s.now 0)) 0 (rows_of s.now table)) result }
+    ensures { Decides (run (level_entry_checks table (image p.now [] [] s.now 0)) 0 (rows_of s.now table)) result }
 {
     let rows = refs::rows_of(s, table);
     let mut i = 0;
@@ -160,7 +160,7 @@ pub fn check_level_entries(p: &[u8], s: &TableStarts, table: u8) -> Outcome
 // Whether they all pass: an answer in a register.
 pub fn level_entries_pass(p: &[u8], s: &TableStarts, table: u8) -> bool
     requires { Whole p.now × (Rising s.now × (Within p.now s.now × (table < 25))) }
-    ensures { result ≡ isPassed (first (run (levelEntryChecks table (image p.now [] [] s.now 0)) 0 (rows_of s.now table))) }
+    ensures { result ≡ is_passed (first (run (level_entry_checks table (image p.now [] [] s.now 0)) 0 (rows_of s.now table))) }
 {
     let rows = refs::rows_of(s, table);
     let mut i = 0;
@@ -176,7 +176,7 @@ pub fn level_entries_pass(p: &[u8], s: &TableStarts, table: u8) -> bool
 // Entry i of a table of lifecycle reactions.
 fn check_lifecycle_entry(p: &[u8], s: &TableStarts, table: u8, i: u32) -> Outcome
     requires { Whole p.now × (Rising s.now × (Within p.now s.now × (table < 25))) }
-    ensures { Decides (lifecycleEntryChecks table (image p.now [] [] s.now 0) i) result }
+    ensures { Decides (lifecycle_entry_checks table (image p.now [] [] s.now 0) i) result }
 {
     let entry = read_lists::lifecycle_at(p, refs::row_number(s, table, i));
     let a = lists::check_action(s, table, i, entry.action);
@@ -190,7 +190,7 @@ fn check_lifecycle_entry(p: &[u8], s: &TableStarts, table: u8, i: u32) -> Outcom
 // Every entry of a table of lifecycle reactions, in the same way.
 pub fn check_lifecycle_entries(p: &[u8], s: &TableStarts, table: u8) -> Outcome
     requires { Whole p.now × (Rising s.now × (Within p.now s.now × (table < 25))) }
-    ensures { Decides (run (lifecycleEntryChecks table (image p.now [] [] s.now 0)) 0 (rows_of s.now table)) result }
+    ensures { Decides (run (lifecycle_entry_checks table (image p.now [] [] s.now 0)) 0 (rows_of s.now table)) result }
 {
     let rows = refs::rows_of(s, table);
     let mut i = 0;
@@ -207,7 +207,7 @@ pub fn check_lifecycle_entries(p: &[u8], s: &TableStarts, table: u8) -> Outcome
 // Whether they all pass.
 pub fn lifecycle_entries_pass(p: &[u8], s: &TableStarts, table: u8) -> bool
     requires { Whole p.now × (Rising s.now × (Within p.now s.now × (table < 25))) }
-    ensures { result ≡ isPassed (first (run (lifecycleEntryChecks table (image p.now [] [] s.now 0)) 0 (rows_of s.now table))) }
+    ensures { result ≡ is_passed (first (run (lifecycle_entry_checks table (image p.now [] [] s.now 0)) 0 (rows_of s.now table))) }
 {
     let rows = refs::rows_of(s, table);
     let mut i = 0;
@@ -223,7 +223,7 @@ pub fn lifecycle_entries_pass(p: &[u8], s: &TableStarts, table: u8) -> bool
 // The shutdown reactions: one list over the whole table.
 pub fn check_shutdown_reactions(p: &[u8], s: &TableStarts) -> Outcome
     requires { Whole p.now × (Rising s.now × Within p.now s.now) }
-    ensures { Decides (run (shutdownReactionChecks (image p.now [] [] s.now 0)) 0 (rows_of s.now 21)) result }
+    ensures { Decides (run (shutdown_reaction_checks (image p.now [] [] s.now 0)) 0 (rows_of s.now 21)) result }
 {
     let table = ShutdownReaction::TABLE;
     let rows = refs::rows_of(s, table);

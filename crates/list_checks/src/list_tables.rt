@@ -1,9 +1,9 @@
 // The checks of the list tables of one index or one startup, and of the enabled modes of reactions.
 ghost use Rattle.std.specs.Prelude.{[], ◌∷◌, ◌<◌};
 ghost use Rattle.answers.specs.Checks.{run, Decides};
-ghost use Rattle.checks.specs.Image.{image, rows_of, modesAt, Rising, Within};
-ghost use Rattle.checks.specs.Refs.{refTo};
-ghost use Rattle.list_checks.specs.ListTables.{indexChecks, startupChecks, enabledModeChecks, enabledModesChecks, indexOrderChecks, shutdownActionChecks, indexesAt};
+ghost use Rattle.checks.specs.Image.{image, rows_of, modes_at, Rising, Within};
+ghost use Rattle.checks.specs.Refs.{ref_to};
+ghost use Rattle.list_checks.specs.ListTables.{index_checks, startup_checks, enabled_mode_checks, enabled_modes_checks, index_order_checks, shutdown_action_checks, indexes_at};
 ghost use Rattle.list_checks.specs.FirstPast.{first_word, FirstPast};
 ghost use Rattle.schema.specs.Rows.{Whole};
 
@@ -20,7 +20,7 @@ use schema::{TableStarts, parts, read, read_lists};
 // A port that an entry names is there.
 pub fn check_port(s: &TableStarts, table: u8, index: u32, field: u8, key: PortIndex) -> Outcome
     requires { Rising s.now }
-    ensures { Decides (refTo (rows_of s.now) table index field 4 key.0 ∷ []) result }
+    ensures { Decides (ref_to (rows_of s.now) table index field 4 key.0 ∷ []) result }
 {
     let found = refs::check_port_ref(s, table, index, field, key);
     let Found::Row(_n) = found else {
@@ -32,7 +32,7 @@ pub fn check_port(s: &TableStarts, table: u8, index: u32, field: u8, key: PortIn
 // A mode that an entry names is there.
 fn check_mode(s: &TableStarts, table: u8, index: u32, key: ModeIndex) -> Outcome
     requires { Rising s.now }
-    ensures { Decides (refTo (rows_of s.now) table index 20 6 key.0 ∷ []) result }
+    ensures { Decides (ref_to (rows_of s.now) table index 20 6 key.0 ∷ []) result }
 {
     let found = refs::check_mode_ref(s, table, index, field::MODE, key);
     let Found::Row(_n) = found else {
@@ -61,7 +61,7 @@ fn first_past(p: &[u8], s: &TableStarts, table: u8, target: u8) -> u32
 // Each table's entries are looked through at once; the one that is refused is looked up as itself.
 fn check_use_port(p: &[u8], s: &TableStarts, i: u32) -> Outcome
     requires { Whole p.now × (Rising s.now × Within p.now s.now) }
-    ensures { Decides (indexChecks 9 30 4 (image p.now [] [] s.now 0) i) result }
+    ensures { Decides (index_checks 9 30 4 (image p.now [] [] s.now 0) i) result }
 {
     let n = refs::row_number(s, ReactionUsePort::TABLE, i);
     let entry = read_lists::reaction_use_port_at(p, n);
@@ -70,7 +70,7 @@ fn check_use_port(p: &[u8], s: &TableStarts, i: u32) -> Outcome
 
 pub fn check_use_ports(p: &[u8], s: &TableStarts) -> Outcome
     requires { Whole p.now × (Rising s.now × Within p.now s.now) }
-    ensures { Decides (run (indexChecks 9 30 4 (image p.now [] [] s.now 0)) 0 (rows_of s.now 9)) result }
+    ensures { Decides (run (index_checks 9 30 4 (image p.now [] [] s.now 0)) 0 (rows_of s.now 9)) result }
 {
     let i = first_past(p, s, ReactionUsePort::TABLE, PortImage::TABLE);
     if i < refs::rows_of(s, ReactionUsePort::TABLE) {
@@ -81,7 +81,7 @@ pub fn check_use_ports(p: &[u8], s: &TableStarts) -> Outcome
 
 fn check_effect_port(p: &[u8], s: &TableStarts, i: u32) -> Outcome
     requires { Whole p.now × (Rising s.now × Within p.now s.now) }
-    ensures { Decides (indexChecks 10 30 4 (image p.now [] [] s.now 0) i) result }
+    ensures { Decides (index_checks 10 30 4 (image p.now [] [] s.now 0) i) result }
 {
     let n = refs::row_number(s, ReactionEffectPort::TABLE, i);
     let entry = read_lists::reaction_effect_port_at(p, n);
@@ -90,7 +90,7 @@ fn check_effect_port(p: &[u8], s: &TableStarts, i: u32) -> Outcome
 
 pub fn check_effect_ports(p: &[u8], s: &TableStarts) -> Outcome
     requires { Whole p.now × (Rising s.now × Within p.now s.now) }
-    ensures { Decides (run (indexChecks 10 30 4 (image p.now [] [] s.now 0)) 0 (rows_of s.now 10)) result }
+    ensures { Decides (run (index_checks 10 30 4 (image p.now [] [] s.now 0)) 0 (rows_of s.now 10)) result }
 {
     let i = first_past(p, s, ReactionEffectPort::TABLE, PortImage::TABLE);
     if i < refs::rows_of(s, ReactionEffectPort::TABLE) {
@@ -101,7 +101,7 @@ pub fn check_effect_ports(p: &[u8], s: &TableStarts) -> Outcome
 
 fn check_reaction_action(p: &[u8], s: &TableStarts, i: u32) -> Outcome
     requires { Whole p.now × (Rising s.now × Within p.now s.now) }
-    ensures { Decides (indexChecks 11 29 3 (image p.now [] [] s.now 0) i) result }
+    ensures { Decides (index_checks 11 29 3 (image p.now [] [] s.now 0) i) result }
 {
     let n = refs::row_number(s, ReactionAction::TABLE, i);
     let entry = read_lists::reaction_action_at(p, n);
@@ -110,7 +110,7 @@ fn check_reaction_action(p: &[u8], s: &TableStarts, i: u32) -> Outcome
 
 pub fn check_reaction_actions(p: &[u8], s: &TableStarts) -> Outcome
     requires { Whole p.now × (Rising s.now × Within p.now s.now) }
-    ensures { Decides (run (indexChecks 11 29 3 (image p.now [] [] s.now 0)) 0 (rows_of s.now 11)) result }
+    ensures { Decides (run (index_checks 11 29 3 (image p.now [] [] s.now 0)) 0 (rows_of s.now 11)) result }
 {
     let i = first_past(p, s, ReactionAction::TABLE, ActionImage::TABLE);
     if i < refs::rows_of(s, ReactionAction::TABLE) {
@@ -121,7 +121,7 @@ pub fn check_reaction_actions(p: &[u8], s: &TableStarts) -> Outcome
 
 fn check_reaction_mode(p: &[u8], s: &TableStarts, i: u32) -> Outcome
     requires { Whole p.now × (Rising s.now × Within p.now s.now) }
-    ensures { Decides (indexChecks 12 20 6 (image p.now [] [] s.now 0) i) result }
+    ensures { Decides (index_checks 12 20 6 (image p.now [] [] s.now 0) i) result }
 {
     let n = refs::row_number(s, ReactionMode::TABLE, i);
     let entry = read_lists::reaction_mode_at(p, n);
@@ -130,7 +130,7 @@ fn check_reaction_mode(p: &[u8], s: &TableStarts, i: u32) -> Outcome
 
 pub fn check_reaction_modes(p: &[u8], s: &TableStarts) -> Outcome
     requires { Whole p.now × (Rising s.now × Within p.now s.now) }
-    ensures { Decides (run (indexChecks 12 20 6 (image p.now [] [] s.now 0)) 0 (rows_of s.now 12)) result }
+    ensures { Decides (run (index_checks 12 20 6 (image p.now [] [] s.now 0)) 0 (rows_of s.now 12)) result }
 {
     let i = first_past(p, s, ReactionMode::TABLE, ModeImage::TABLE);
     if i < refs::rows_of(s, ReactionMode::TABLE) {
@@ -141,7 +141,7 @@ pub fn check_reaction_modes(p: &[u8], s: &TableStarts) -> Outcome
 
 fn check_descendant(p: &[u8], s: &TableStarts, i: u32) -> Outcome
     requires { Whole p.now × (Rising s.now × Within p.now s.now) }
-    ensures { Decides (indexChecks 13 6 7 (image p.now [] [] s.now 0) i) result }
+    ensures { Decides (index_checks 13 6 7 (image p.now [] [] s.now 0) i) result }
 {
     let n = refs::row_number(s, ScopeDescendant::TABLE, i);
     let entry = read_lists::scope_descendant_at(p, n);
@@ -150,7 +150,7 @@ fn check_descendant(p: &[u8], s: &TableStarts, i: u32) -> Outcome
 
 pub fn check_descendants(p: &[u8], s: &TableStarts) -> Outcome
     requires { Whole p.now × (Rising s.now × Within p.now s.now) }
-    ensures { Decides (run (indexChecks 13 6 7 (image p.now [] [] s.now 0)) 0 (rows_of s.now 13)) result }
+    ensures { Decides (run (index_checks 13 6 7 (image p.now [] [] s.now 0)) 0 (rows_of s.now 13)) result }
 {
     let i = first_past(p, s, ScopeDescendant::TABLE, ScopeImage::TABLE);
     if i < refs::rows_of(s, ScopeDescendant::TABLE) {
@@ -161,7 +161,7 @@ pub fn check_descendants(p: &[u8], s: &TableStarts) -> Outcome
 
 fn check_logical_action(p: &[u8], s: &TableStarts, i: u32) -> Outcome
     requires { Whole p.now × (Rising s.now × Within p.now s.now) }
-    ensures { Decides (indexChecks 14 29 3 (image p.now [] [] s.now 0) i) result }
+    ensures { Decides (index_checks 14 29 3 (image p.now [] [] s.now 0) i) result }
 {
     let n = refs::row_number(s, ScopeLogicalAction::TABLE, i);
     let entry = read_lists::scope_logical_action_at(p, n);
@@ -170,7 +170,7 @@ fn check_logical_action(p: &[u8], s: &TableStarts, i: u32) -> Outcome
 
 pub fn check_logical_actions(p: &[u8], s: &TableStarts) -> Outcome
     requires { Whole p.now × (Rising s.now × Within p.now s.now) }
-    ensures { Decides (run (indexChecks 14 29 3 (image p.now [] [] s.now 0)) 0 (rows_of s.now 14)) result }
+    ensures { Decides (run (index_checks 14 29 3 (image p.now [] [] s.now 0)) 0 (rows_of s.now 14)) result }
 {
     let i = first_past(p, s, ScopeLogicalAction::TABLE, ActionImage::TABLE);
     if i < refs::rows_of(s, ScopeLogicalAction::TABLE) {
@@ -181,7 +181,7 @@ pub fn check_logical_actions(p: &[u8], s: &TableStarts) -> Outcome
 
 fn check_timer_startup(p: &[u8], s: &TableStarts, i: u32) -> Outcome
     requires { Whole p.now × (Rising s.now × Within p.now s.now) }
-    ensures { Decides (startupChecks 15 (image p.now [] [] s.now 0) i) result }
+    ensures { Decides (startup_checks 15 (image p.now [] [] s.now 0) i) result }
 {
     let n = refs::row_number(s, ScopeTimerStartup::TABLE, i);
     let entry = read_lists::scope_timer_startup_at(p, n);
@@ -191,7 +191,7 @@ fn check_timer_startup(p: &[u8], s: &TableStarts, i: u32) -> Outcome
 
 pub fn check_timer_startups(p: &[u8], s: &TableStarts) -> Outcome
     requires { Whole p.now × (Rising s.now × Within p.now s.now) }
-    ensures { Decides (run (startupChecks 15 (image p.now [] [] s.now 0)) 0 (rows_of s.now 15)) result }
+    ensures { Decides (run (startup_checks 15 (image p.now [] [] s.now 0)) 0 (rows_of s.now 15)) result }
 {
     let i = first_past(p, s, ScopeTimerStartup::TABLE, ActionImage::TABLE);
     if i < refs::rows_of(s, ScopeTimerStartup::TABLE) {
@@ -202,7 +202,7 @@ pub fn check_timer_startups(p: &[u8], s: &TableStarts) -> Outcome
 
 fn check_startup_action(p: &[u8], s: &TableStarts, i: u32) -> Outcome
     requires { Whole p.now × (Rising s.now × Within p.now s.now) }
-    ensures { Decides (startupChecks 19 (image p.now [] [] s.now 0) i) result }
+    ensures { Decides (startup_checks 19 (image p.now [] [] s.now 0) i) result }
 {
     let n = refs::row_number(s, StartupAction::TABLE, i);
     let entry = read_lists::startup_action_at(p, n);
@@ -212,7 +212,7 @@ fn check_startup_action(p: &[u8], s: &TableStarts, i: u32) -> Outcome
 
 pub fn check_startup_actions(p: &[u8], s: &TableStarts) -> Outcome
     requires { Whole p.now × (Rising s.now × Within p.now s.now) }
-    ensures { Decides (run (startupChecks 19 (image p.now [] [] s.now 0)) 0 (rows_of s.now 19)) result }
+    ensures { Decides (run (startup_checks 19 (image p.now [] [] s.now 0)) 0 (rows_of s.now 19)) result }
 {
     let i = first_past(p, s, StartupAction::TABLE, ActionImage::TABLE);
     if i < refs::rows_of(s, StartupAction::TABLE) {
@@ -223,7 +223,7 @@ pub fn check_startup_actions(p: &[u8], s: &TableStarts) -> Outcome
 
 fn check_timer_startup_action(p: &[u8], s: &TableStarts, i: u32) -> Outcome
     requires { Whole p.now × (Rising s.now × Within p.now s.now) }
-    ensures { Decides (startupChecks 20 (image p.now [] [] s.now 0) i) result }
+    ensures { Decides (startup_checks 20 (image p.now [] [] s.now 0) i) result }
 {
     let n = refs::row_number(s, TimerStartupAction::TABLE, i);
     let entry = read_lists::timer_startup_action_at(p, n);
@@ -233,7 +233,7 @@ fn check_timer_startup_action(p: &[u8], s: &TableStarts, i: u32) -> Outcome
 
 pub fn check_timer_startup_actions(p: &[u8], s: &TableStarts) -> Outcome
     requires { Whole p.now × (Rising s.now × Within p.now s.now) }
-    ensures { Decides (run (startupChecks 20 (image p.now [] [] s.now 0)) 0 (rows_of s.now 20)) result }
+    ensures { Decides (run (startup_checks 20 (image p.now [] [] s.now 0)) 0 (rows_of s.now 20)) result }
 {
     let i = first_past(p, s, TimerStartupAction::TABLE, ActionImage::TABLE);
     if i < refs::rows_of(s, TimerStartupAction::TABLE) {
@@ -252,7 +252,7 @@ fn check_enabled_mode(
     k: u32,
 ) -> Outcome
     requires { Whole p.now × (Rising s.now × Within p.now s.now) }
-    ensures { Decides (enabledModeChecks (rows_of s.now) (modesAt p.now s.now) (indexesAt p.now s.now) i reactor.0 start k) result }
+    ensures { Decides (enabled_mode_checks (rows_of s.now) (modes_at p.now s.now) (indexes_at p.now s.now) i reactor.0 start k) result }
 {
     let index = lists::entry_index(start, k);
     let n = refs::row_in(s[12], start, k);
@@ -276,7 +276,7 @@ fn check_enabled_mode(
 // The enabled modes of reaction i.
 fn check_enabled_modes(p: &[u8], s: &TableStarts, i: u32) -> Outcome
     requires { Whole p.now × (Rising s.now × (Within p.now s.now × (i < rows_of s.now 5))) }
-    ensures { Decides (enabledModesChecks (image p.now [] [] s.now 0) i) result }
+    ensures { Decides (enabled_modes_checks (image p.now [] [] s.now 0) i) result }
 {
     let n = refs::row_of(s, ReactionImage::TABLE, i);
     let reactor = parts::reaction_reactor_of(p, n);
@@ -297,7 +297,7 @@ fn check_enabled_modes(p: &[u8], s: &TableStarts, i: u32) -> Outcome
 // The enabled modes of every reaction.
 pub fn check_modes_of_reactions(p: &[u8], s: &TableStarts) -> Outcome
     requires { Whole p.now × (Rising s.now × Within p.now s.now) }
-    ensures { Decides (run (enabledModesChecks (image p.now [] [] s.now 0)) 0 (rows_of s.now 5)) result }
+    ensures { Decides (run (enabled_modes_checks (image p.now [] [] s.now 0)) 0 (rows_of s.now 5)) result }
 {
     let rows = refs::rows_of(s, ReactionImage::TABLE);
     let mut i = 0;
@@ -312,7 +312,7 @@ pub fn check_modes_of_reactions(p: &[u8], s: &TableStarts) -> Outcome
 }
 
 fn check_index_order(table: u8, index: u32, key: u32, before: u32) -> Outcome
-    ensures { Decides (indexOrderChecks table index key before) result }
+    ensures { Decides (index_order_checks table index key before) result }
 {
     if key == before {
         return Outcome::Refused(Refusal::DuplicateEntry { table, index });
@@ -326,7 +326,7 @@ fn check_index_order(table: u8, index: u32, key: u32, before: u32) -> Outcome
 // Entry i of the shutdown actions, against the one before.
 fn check_shutdown_action(p: &[u8], s: &TableStarts, i: u32) -> Outcome
     requires { Whole p.now × (Rising s.now × Within p.now s.now) }
-    ensures { Decides (shutdownActionChecks (image p.now [] [] s.now 0) i) result }
+    ensures { Decides (shutdown_action_checks (image p.now [] [] s.now 0) i) result }
 {
     let table = ShutdownAction::TABLE;
     let entry = read_lists::shutdown_action_at(p, refs::row_number(s, table, i));
@@ -346,7 +346,7 @@ fn check_shutdown_action(p: &[u8], s: &TableStarts, i: u32) -> Outcome
 // Every shutdown action.
 pub fn check_shutdown_actions(p: &[u8], s: &TableStarts) -> Outcome
     requires { Whole p.now × (Rising s.now × Within p.now s.now) }
-    ensures { Decides (run (shutdownActionChecks (image p.now [] [] s.now 0)) 0 (rows_of s.now 22)) result }
+    ensures { Decides (run (shutdown_action_checks (image p.now [] [] s.now 0)) 0 (rows_of s.now 22)) result }
 {
     let rows = refs::rows_of(s, ShutdownAction::TABLE);
     let mut i = 0;

@@ -1,13 +1,13 @@
 // The checks of routes and of required bindings.
 ghost use Rattle.std.specs.Prelude.{◌≡◌, ◌||◌, eqb, ◌-◌, ◌<◌};
-ghost use Rattle.identity.specs.Order.{compared, isGreater};
-ghost use Rattle.identity.specs.Text.{identityText};
+ghost use Rattle.identity.specs.Order.{compared, is_greater};
+ghost use Rattle.identity.specs.Text.{identity_text};
 ghost use Rattle.answers.specs.Checks.{run, Decides};
 ghost use Rattle.answers.specs.PassesIf.{PassesIf};
 ghost use Rattle.checks.specs.Image.{image, rows_of, Rising, Within};
-ghost use Rattle.checks.specs.Lists.{afterFirst};
+ghost use Rattle.checks.specs.Lists.{after_first};
 ghost use Rattle.checks.specs.PassedOver.{PassedOver};
-ghost use Rattle.list_checks.specs.Routes.{directionNumber, sameBoundaryChecks, routeOrderChecks, routesAt, routeChecks, bindingIdChecks};
+ghost use Rattle.list_checks.specs.Routes.{direction_number, same_boundary_checks, route_order_checks, routes_at, route_checks, binding_id_checks};
 ghost use Rattle.schema.specs.Rows.{Whole};
 
 use answers::{Outcome, Refusal, field, kind};
@@ -19,7 +19,7 @@ use schema::{TableStarts, parts, read};
 
 // 0 inbound, 1 outbound.
 pub fn direction_number(direction: RouteDirection) -> u8
-    ensures { result ≡ directionNumber direction }
+    ensures { result ≡ direction_number direction }
 {
     match direction {
         RouteDirection::Inbound => 0,
@@ -29,7 +29,7 @@ pub fn direction_number(direction: RouteDirection) -> u8
 
 // Of one boundary: the two halves differ, and the one before is not the outbound one.
 fn check_same_boundary(i: u32, id: IdentityPlace, direction: u8, before: u8) -> Outcome
-    ensures { Decides (sameBoundaryChecks i id direction before) result }
+    ensures { Decides (same_boundary_checks i id direction before) result }
 {
     if direction == before {
         return Outcome::Refused(Refusal::DuplicateRouteHalf {
@@ -54,7 +54,7 @@ fn check_route_order<'a>(
     route: RouteImage,
     before: RouteImage,
 ) -> Outcome
-    ensures { Decides (routeOrderChecks (identityText batch.now house.now) i route.boundary route.direction before.boundary before.direction) result }
+    ensures { Decides (route_order_checks (identity_text batch.now house.now) i route.boundary route.direction before.boundary before.direction) result }
 {
     let id = route.boundary;
     let order = identity::compare::compare_places(batch, house, id, before.boundary);
@@ -83,7 +83,7 @@ fn check_route_after<'a>(
     route: RouteImage,
 ) -> Outcome
     requires { Whole p.now × (Rising s.now × Within p.now s.now) }
-    ensures { Decides (afterFirst i (routeOrderChecks (identityText batch.now house.now) i route.boundary route.direction (routesAt p.now s.now (i - 1)).boundary (routesAt p.now s.now (i - 1)).direction)) result }
+    ensures { Decides (after_first i (route_order_checks (identity_text batch.now house.now) i route.boundary route.direction (routes_at p.now s.now (i - 1)).boundary (routes_at p.now s.now (i - 1)).direction)) result }
 {
     if i == 0 {
         return Outcome::Passed;
@@ -101,7 +101,7 @@ fn check_route<'a>(
     i: u32,
 ) -> Outcome
     requires { Whole p.now × (Rising s.now × Within p.now s.now) }
-    ensures { Decides (routeChecks (image p.now batch.now house.now s.now 0) i) result }
+    ensures { Decides (route_checks (image p.now batch.now house.now s.now 0) i) result }
 {
     let route = read::route_at(p, refs::row_number(s, RouteImage::TABLE, i));
     let a = identities::validate_id(batch, house, kind::BOUNDARY, i, route.boundary);
@@ -124,7 +124,7 @@ fn route_passes<'a>(
     i: u32,
 ) -> bool
     requires { Rising s.now × (Within p.now s.now × (i < rows_of s.now 23)) }
-    ensures { PassesIf (routeChecks (image p.now batch.now house.now s.now 0) i) result }
+    ensures { PassesIf (route_checks (image p.now batch.now house.now s.now 0) i) result }
 {
     let n = refs::row_of(s, RouteImage::TABLE, i);
     let id = parts::route_boundary_of(p, n);
@@ -151,7 +151,7 @@ pub fn check_routes<'a>(
     s: &'a TableStarts,
 ) -> Outcome
     requires { Whole p.now × (Rising s.now × Within p.now s.now) }
-    ensures { Decides (run (routeChecks (image p.now batch.now house.now s.now 0)) 0 (rows_of s.now 23)) result }
+    ensures { Decides (run (route_checks (image p.now batch.now house.now s.now 0)) 0 (rows_of s.now 23)) result }
 {
     let rows = refs::rows_of(s, RouteImage::TABLE);
     let mut i = 0;
@@ -177,7 +177,7 @@ fn check_binding_id<'a>(
     i: u32,
 ) -> Outcome
     requires { Whole p.now × (Rising s.now × Within p.now s.now) }
-    ensures { Decides (bindingIdChecks (image p.now batch.now house.now s.now 0) i) result }
+    ensures { Decides (binding_id_checks (image p.now batch.now house.now s.now 0) i) result }
 {
     let table = RequiredBindingImage::TABLE;
     let binding = read::binding_at(p, refs::row_number(s, table, i));
@@ -195,7 +195,7 @@ fn check_binding_id<'a>(
 
 // Whether a binding's text comes after the one before it; the first has none before it.
 fn comes_after<'a>(i: u32, text: &'a [u8], before: &'a [u8]) -> bool
-    ensures { result ≡ (eqb i 0 || isGreater (compared text.now before.now)) }
+    ensures { result ≡ (eqb i 0 || is_greater (compared text.now before.now)) }
 {
     if i == 0 {
         return true;
@@ -212,7 +212,7 @@ fn bindings_past<'a>(
     rows: u32,
 ) -> u32
     requires { Rising s.now × (Within p.now s.now × (rows ≡ rows_of s.now 24)) }
-    ensures { PassedOver (bindingIdChecks (image p.now batch.now house.now s.now 0)) rows result }
+    ensures { PassedOver (binding_id_checks (image p.now batch.now house.now s.now 0)) rows result }
 {
     let mut i: u32 = 0;
     let mut before: &'a [u8] = &batch[..0];
@@ -239,7 +239,7 @@ pub fn check_binding_ids<'a>(
     s: &'a TableStarts,
 ) -> Outcome
     requires { Whole p.now × (Rising s.now × Within p.now s.now) }
-    ensures { Decides (run (bindingIdChecks (image p.now batch.now house.now s.now 0)) 0 (rows_of s.now 24)) result }
+    ensures { Decides (run (binding_id_checks (image p.now batch.now house.now s.now 0)) 0 (rows_of s.now 24)) result }
 {
     let rows = refs::rows_of(s, RequiredBindingImage::TABLE);
     let mut i = bindings_past(p, batch, house, s, rows);

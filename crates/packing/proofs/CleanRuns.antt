@@ -12,9 +12,9 @@ use Rattle.schema.specs.Number.{number}
 use Rattle.schema.specs.Rows.{byte_of}
 use Rattle.schema.proofs.Width.{number-four}
 use Rattle.packing.specs.declared.shape.Shape.{Shape}
-use Rattle.packing.specs.Shape.{layout_of, governedBytes, shape, shape_of}
-use Rattle.packing.specs.Clean.{zeros, headClean, tailClean, kindClean, cleanBy, clean}
-use Rattle.packing.specs.Runs.{PlainShape, plainFrom, CleanRun, fieldsClean}
+use Rattle.packing.specs.Shape.{layout_of, governed_bytes, shape, shape_of}
+use Rattle.packing.specs.Clean.{zeros, head_clean, tail_clean, kind_clean, clean_by, clean}
+use Rattle.packing.specs.Runs.{PlainShape, plain_from, CleanRun, fields_clean}
 use Rattle.packing.proofs.Tests.{both, and-next, refused, held}
 use Rattle.packing.proofs.Zeros.{zeros-tail}
 use Rattle.packing.proofs.Records.{table_at}
@@ -64,19 +64,19 @@ plain-shape {s} h =
     record { none-0 = eqb-true _ _ b.0; none_1 = eqb-true _ _ b.1; half = leb-true _ _ a.1 }
 
 -- tables 3 and 5 have governed fields
-other-table : (k t j : ℕ) → governedBytes k (layout_of t).fields ≡ 0 → (governedBytes k (layout_of j).fields ≡ 0 → ⊥) → eqb t j ≡ false
+other-table : (k t j : ℕ) → governed_bytes k (layout_of t).fields ≡ 0 → (governed_bytes k (layout_of j).fields ≡ 0 → ⊥) → eqb t j ≡ false
 other-table k t j e n = ne_eqb t j (λ h. n (rw (← h) e))
 
 -- a record of a table whose shape is plain
-plain_by : (l : Layout) (p : List ℕ) (n : ℕ) → governedBytes 0 l.fields ≡ 0 → governedBytes 1 l.fields ≡ 0 → cleanBy l p n ≡ plainFrom (shape l) p (n * 64)
+plain_by : (l : Layout) (p : List ℕ) (n : ℕ) → governed_bytes 0 l.fields ≡ 0 → governed_bytes 1 l.fields ≡ 0 → clean_by l p n ≡ plain_from (shape l) p (n * 64)
 unfolding zeros
 plain_by l p n g h = simp (g, h, or-true, and-true)
 
-pub plain-clean : (p : List ℕ) {s : Shape} (t n : ℕ) → s ≡ shape_of t → PlainShape s → get_or p (n * 64) 0 ≡ t → plainFrom s p (n * 64) ≡ clean p n
+pub plain-clean : (p : List ℕ) {s : Shape} (t n : ℕ) → s ≡ shape_of t → PlainShape s → get_or p (n * 64) 0 ≡ t → plain_from s p (n * 64) ≡ clean p n
 unfolding layouts clean
 plain-clean p {s} t n i f e =
-    let g : governedBytes 0 (layout_of t).fields ≡ 0 = sym (ap (λ (x : Shape). x.bit_0.len) i) ∙ f.none-0 in
-    let h : governedBytes 1 (layout_of t).fields ≡ 0 = sym (ap (λ (x : Shape). x.bit_1.len) i) ∙ f.none_1 in
+    let g : governed_bytes 0 (layout_of t).fields ≡ 0 = sym (ap (λ (x : Shape). x.bit_0.len) i) ∙ f.none-0 in
+    let h : governed_bytes 1 (layout_of t).fields ≡ 0 = sym (ap (λ (x : Shape). x.bit_1.len) i) ∙ f.none_1 in
     let x : eqb t 3 ≡ false = other-table 0 t 3 g (λ z. omega arith) in
     let y : eqb t 5 ≡ false = other-table 1 t 5 h (λ z. omega arith) in
     rw (table_at p n, e, x, y, i) (sym (and-true _ ∙ plain_by (layout_of t) p n g h))
@@ -97,7 +97,7 @@ bare-clean p {s} t n f i g e z =
     let h = bare-head p t (n * 64) f e in
     let l = g.half in
     let y : zeros p (n * 64 + s.used) (64 - s.used) ≡ true = sym (zeros-tail p (n * 64) s.used 32 _ (omega arith) (omega arith) (omega arith)) ∙ z in
-    let x : plainFrom s p (n * 64) ≡ true = rw (h.1.0, h.1.1.0, h.1.1.1, y, le-leb 0 s.bits (omega arith), le-leb 0 s.kinds (omega arith)) in
+    let x : plain_from s p (n * 64) ≡ true = rw (h.1.0, h.1.1.0, h.1.1.1, y, le-leb 0 s.bits (omega arith), le-leb 0 s.kinds (omega arith)) in
     (h.0, sym (plain-clean p t n i g h.0) ∙ x)
 
 -- a record is clean by its parts: the bytes past its fields, bytes 1 to 3 and the governed fields, and what its table asks beside
@@ -107,21 +107,21 @@ parts-turned true false absent kind = refl
 parts-turned false true absent kind = refl
 parts-turned false false absent kind = refl
 
-pub clean-parts : (p : List ℕ) (t n : ℕ) → t ≡ byte_of p n 0 → clean p n ≡ tailClean (layout_of t) p n && (fieldsClean (layout_of t) p n && kindClean t p n)
+pub clean-parts : (p : List ℕ) (t n : ℕ) → t ≡ byte_of p n 0 → clean p n ≡ tail_clean (layout_of t) p n && (fields_clean (layout_of t) p n && kind_clean t p n)
 unfolding clean
-clean-parts p t n e = rw (← e) (parts-turned (headClean (layout_of t) p n) (tailClean (layout_of t) p n) _ (kindClean t p n))
+clean-parts p t n e = rw (← e) (parts-turned (head_clean (layout_of t) p n) (tail_clean (layout_of t) p n) _ (kind_clean t p n))
 
 -- the parts in turn: one that is not clean refuses the record, and the last one decides
-module _ (p : List ℕ) (t n : ℕ) (e : t ≡ byte_of p n 0) {tail : Bool} (a : tail ≡ tailClean (layout_of t) p n) where
+module _ (p : List ℕ) (t n : ℕ) (e : t ≡ byte_of p n 0) {tail : Bool} (a : tail ≡ tail_clean (layout_of t) p n) where
   pub tail-stray : not tail ≡ true → false ≡ clean p n
   tail-stray h = rw (clean-parts p t n e, refused a h)
 
-  module _ (h : not tail ≡ false) {fields : Bool} (b : fields ≡ fieldsClean (layout_of t) p n) where
+  module _ (h : not tail ≡ false) {fields : Bool} (b : fields ≡ fields_clean (layout_of t) p n) where
     pub fields-stray : not fields ≡ true → false ≡ clean p n
     fields-stray g = rw (clean-parts p t n e, held a h, refused b g)
 
-    pub kind-decides : not fields ≡ false → {kind : Bool} → kind ≡ kindClean t p n → kind ≡ clean p n
+    pub kind-decides : not fields ≡ false → {kind : Bool} → kind ≡ kind_clean t p n → kind ≡ clean p n
     kind-decides g d = rw (clean-parts p t n e, held a h, held b g) d
 
-    pub fields-decide : kindClean t p n ≡ true → fields ≡ clean p n
+    pub fields-decide : kind_clean t p n ≡ true → fields ≡ clean p n
     fields-decide d = rw (clean-parts p t n e, held a h, d) (b ∙ sym (and-true _))

@@ -10,8 +10,8 @@ use borrow.Author.Tests.{ltb-true, ltb-false, eqb-true, le-ltb, le-leb}
 use Rattle.schema.specs.Rows.{byte_of}
 use Rattle.packing.specs.declared.PackKind.{PackKind}
 use Rattle.packing.specs.declared.PackKind.TheVariants.{Enclave, Federate}
-use Rattle.packing.specs.Packing.{packFits, inPlace}
-use Rattle.packing.specs.Starts.{recordsOf, reaches, tableStarts}
+use Rattle.packing.specs.Packing.{pack_fits, in_place}
+use Rattle.packing.specs.Starts.{records_of, reaches, table_starts}
 use Rattle.packing.specs.Runs.{After, CleanRun, RunLimit, OneTable, Reached, RowsFixed, RowTable, RowsPast}
 use Rattle.packing.proofs.Tests.{cases, both}
 use Rattle.packing.proofs.Tables.{pack-length}
@@ -21,7 +21,7 @@ use Rattle.packing.proofs.Places.{row-known, run-in-place}
 use Rattle.packing.proofs.RowRuns.{row-after, row-none, row-end, row-bare, row-fixed}
 
 -- a pack that fits has no more records than are looked at
-pub all-records : (p : List ℕ) → packFits p ≡ true → recordsOf p ≡ length p / 64
+pub all-records : (p : List ℕ) → pack_fits p ≡ true → records_of p ≡ length p / 64
 all-records p f =
     let l = pack-length p f in
     cases (ltb (length p / 64) 65536)
@@ -42,7 +42,7 @@ pub record Placed (kind : PackKind) (p s : List ℕ) (t n : ℕ) : Type 0 where
 pub record Ready (kind : PackKind) (p s : List ℕ) (u n : ℕ) : Type 0 where
   pub none : n ≡ 0 → s ≡ ones
   pub rows : kind ≡ Enclave → (n ≡ 0 → ⊥) → Fixed p 1 s (u + 1) n
-  pub here : inPlace kind p n ≡ true
+  pub here : in_place kind p n ≡ true
   pub table : byte_of p n 0 ≡ u
 
 pub placed-none : (kind : PackKind) (p : List ℕ) (k : ℕ) → k ≡ 1 → Placed kind p (replicate 26 k) 26 0
@@ -54,7 +54,7 @@ placed-none kind p k e =
     }
 
 -- a row after one of the table before t
-enclave-row : (p : List ℕ) (n t : ℕ) → inPlace Enclave p n ≡ true → After Enclave p n t → (n ≡ 0 → ⊥) → (2 ≤ byte_of p n 0) × ((byte_of p n 0 < 25) × (t ≤ byte_of p n 0 + 1))
+enclave-row : (p : List ℕ) (n t : ℕ) → in_place Enclave p n ≡ true → After Enclave p n t → (n ≡ 0 → ⊥) → (2 ≤ byte_of p n 0) × ((byte_of p n 0 < 25) × (t ≤ byte_of p n 0 + 1))
 enclave-row p zero t h a z = absurd (z refl)
 enclave-row p (suc n) t h a z =
     let m : suc n - 1 ≡ n = omega arith in
@@ -63,16 +63,16 @@ enclave-row p (suc n) t h a z =
     (r.0, (r.1.0, omega (arith, r.1.1)))
 
 -- what record n, of table u, reaches
-reaches-own : (p : List ℕ) (n u : ℕ) → n < recordsOf p → byte_of p n 0 ≡ u → 2 ≤ u → u < 25 → Reached p n u
+reaches-own : (p : List ℕ) (n u : ℕ) → n < records_of p → byte_of p n 0 ≡ u → 2 ≤ u → u < 25 → Reached p n u
 reaches-own p n u h e l b =
     let d : get_or p (n * 64) 0 ≡ u = sym (table_at p n) ∙ e in
     let low : ltb (get_or p (n * 64) 0) 2 || ltb 25 (get_or p (n * 64) 0) ≡ false = rw (d, le-ltb u 2 l, le-ltb 25 u (omega arith)) in
-    rw d at (reached-table p n (recordsOf p) refl h low)
+    rw d at (reached-table p n (records_of p) refl h low)
 
 -- any record reaches tables 0 and 1
 reaches-low : (p : List ℕ) (t k : ℕ) → t ≤ 1 → reaches p t k ≡ true
 reaches-low p t k l =
-    cases (ltb k (recordsOf p))
+    cases (ltb k (records_of p))
     (λ b. rw b (cases (ltb (byte_of p k 0) 2) (λ d. rw d) (λ d. let g = ltb-false (byte_of p k 0) 2 d in rw (d, le-leb t (byte_of p k 0) (omega arith)))))
     (λ b. rw b)
 
@@ -80,13 +80,13 @@ fixed-first : (p : List ℕ) → Fixed p 1 ones 2 1
 fixed-first p = fixed-next (fixed-next (fixed-none p 1 ones refl) (omega arith) (reaches-low p 0 1 (omega arith))) (omega arith) (reaches-low p 1 1 (omega arith))
 
 -- a table from 2 on: the record is not the first
-not_first : (kind : PackKind) (p : List ℕ) (n : ℕ) → inPlace kind p n ≡ true → 2 ≤ byte_of p n 0 → n ≡ 0 → ⊥
+not_first : (kind : PackKind) (p : List ℕ) (n : ℕ) → in_place kind p n ≡ true → 2 ≤ byte_of p n 0 → n ≡ 0 → ⊥
 not_first Enclave p n h l z = let e = eqb-true (byte_of p 0 0) 1 (rw z at h) in omega (arith, rw z at l)
 not_first Federate p n h l z = let e = eqb-true (byte_of p 0 0) 0 (rw z at h) in omega (arith, rw z at l)
 
-module _ {kind : PackKind} {p s : List ℕ} {n : ℕ} (f : packFits p ≡ true) where
+module _ {kind : PackKind} {p s : List ℕ} {n : ℕ} (f : pack_fits p ≡ true) where
   -- record n is in its place, and the starts up to its table are fixed
-  pub ready : {w : List ℕ} {t u : ℕ} → Placed kind p s t n → n < length p / 64 → inPlace kind p n ≡ true → u ≡ byte_of p n 0 → RowsFixed kind n u t s w → Ready kind p w u n
+  pub ready : {w : List ℕ} {t u : ℕ} → Placed kind p s t n → n < length p / 64 → in_place kind p n ≡ true → u ≡ byte_of p n 0 → RowsFixed kind n u t s w → Ready kind p w u n
   ready {w} {t} {u} x i h e z =
       record {
         none = λ g. z.none g ∙ x.none g;
@@ -130,7 +130,7 @@ module _ {kind : PackKind} {p s : List ℕ} {n : ℕ} (f : packFits p ≡ true) 
             let i = c.inside in
             let j = l.inside in
             let e = x.table in
-            let h : n < recordsOf p = rw (all-records p f) (omega arith) in
+            let h : n < records_of p = rw (all-records p f) (omega arith) in
             fixed-move (x.rows k nz) ((reaches-own p n u h e (omega arith) (omega arith)).others (u + 1) (omega arith) (omega arith)) one
 
   module _ {w : List ℕ} {u r : ℕ} (x : Ready kind p s u n) (l : RowTable u) (y : RowsPast p u n s r w) where
@@ -163,11 +163,11 @@ module _ {kind : PackKind} {p s : List ℕ} {n : ℕ} (f : packFits p ≡ true) 
         }
 
   -- past the last record
-  pub placed_end : {w : List ℕ} {t : ℕ} → Placed kind p s t n → RowsFixed kind n 25 t s w → length p / 64 ≤ n → kind ≡ Enclave → w ≡ tableStarts p 1
+  pub placed_end : {w : List ℕ} {t : ℕ} → Placed kind p s t n → RowsFixed kind n 25 t s w → length p / 64 ≤ n → kind ≡ Enclave → w ≡ table_starts p 1
   placed_end {w} {t} x z l k =
       let a = both (ltb 0 (length p)) _ f in
       let some = ltb-true 0 (length p) a.0 in
       let whole : length p % 64 ≡ 0 = eqb-true (length p % 64) 0 (both (leb (length p) 4194304) _ a.1).1 in
       let nz : n ≡ 0 → ⊥ = λ g. omega arith in
       let b = (x.rows k nz).within in
-      fixed-all (fixed-turn (x.rows k nz) (reached-end p n (recordsOf p) refl (rw (all-records p f) l)) (z.rows k nz (omega arith))) (omega arith)
+      fixed-all (fixed-turn (x.rows k nz) (reached-end p n (records_of p) refl (rw (all-records p f) l)) (z.rows k nz (omega arith))) (omega arith)

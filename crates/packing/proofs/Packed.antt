@@ -15,7 +15,7 @@ use Rattle.schema.specs.Layout.{layouts}
 use Rattle.schema.specs.Rows.{byte_of}
 use Rattle.packing.specs.declared.PackKind.{PackKind}
 use Rattle.packing.specs.declared.PackKind.TheVariants.{Enclave}
-use Rattle.packing.specs.Packing.{inPlace, recordChecks, packingChecks}
+use Rattle.packing.specs.Packing.{in_place, record_checks, packing_checks}
 use Rattle.packing.proofs.Tests.{both}
 
 -- where a list passes, each of its checks does
@@ -43,21 +43,21 @@ pub record PackLength (n : ℕ) : Type 0 where
   pub few : n ≤ 4194304
   pub whole : n % 64 ≡ 0
 
-module _ (kind : PackKind) (p batch house : List ℕ) (h : first (packingChecks kind p batch house) ≡ Passed) where
+module _ (kind : PackKind) (p batch house : List ℕ) (h : first (packing_checks kind p batch house) ≡ Passed) where
   pub fits : PackLength (length p)
-  unfolding packingChecks
+  unfolding packing_checks
   fits =
       let a = both (ltb 0 (length p)) _ (passed_first _ _ _ h).0 in
       let b = both (leb (length p) 4194304) _ a.1 in
       record { some = ltb-true 0 (length p) a.0; few = leb-true (length p) 4194304 b.0; whole = eqb-true (length p % 64) 0 b.1 }
 
-  pub in_place : (n : ℕ) → n < length p / 64 → inPlace kind p n ≡ true
-  unfolding packingChecks recordChecks
+  pub in_place : (n : ℕ) → n < length p / 64 → in_place kind p n ≡ true
+  unfolding packing_checks record_checks
   in_place n l =
       let rest = (passed_first _ _ _ (passed_first _ _ _ (passed_first _ _ _ h).1).1).1 in
-      (passed_first _ _ _ (passed-run (recordChecks kind p batch house) 0 (length p / 64) rest n (omega arith) (omega arith))).0
+      (passed_first _ _ _ (passed-run (record_checks kind p batch house) 0 (length p / 64) rest n (omega arith) (omega arith))).0
 
-module _ (p batch house : List ℕ) (h : first (packingChecks Enclave p batch house) ≡ Passed) where
+module _ (p batch house : List ℕ) (h : first (packing_checks Enclave p batch house) ≡ Passed) where
   -- from record 1 on, the tables are 2 or above, and rise
   pub rows_above : (n : ℕ) → suc n < length p / 64 → (2 ≤ byte_of p (suc n) 0) × (byte_of p n 0 ≤ byte_of p (suc n) 0)
   rows_above n l =

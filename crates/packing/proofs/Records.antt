@@ -10,7 +10,7 @@ use lib.ListN.{length, get_or}
 use borrow.Author.Tests.{ltb-true, ltb-false}
 use Rattle.schema.specs.Rows.{byte_of}
 use Rattle.packing.specs.declared.walker.Record.TheVariants.{At, End}
-use Rattle.packing.specs.Records.{recordAt}
+use Rattle.packing.specs.Records.{record_at}
 
 -- a record's table number is its first byte
 pub table_at : (p : List ℕ) (n : ℕ) → byte_of p n 0 ≡ get_or p (n * 64) 0
@@ -26,11 +26,11 @@ was-end false u v e = refl
 
 module _ (p : List ℕ) (n : ℕ) where
   -- a record: it lies inside, and its table number and start are those
-  pub record-inside : (t s : ℕ) → recordAt p n ≡ At t s → (n < length p / 64) × ((t ≡ byte_of p n 0) × (s ≡ n * 64))
+  pub record-inside : (t s : ℕ) → record_at p n ≡ At t s → (n < length p / 64) × ((t ≡ byte_of p n 0) × (s ≡ n * 64))
   record-inside t s e =
       let w = was-at (ltb n (length p / 64)) t (byte_of p n 0) s (n * 64) e in
       (ltb-true n (length p / 64) w.0, w.1)
 
   -- the end: there is no such record
-  pub record-end : recordAt p n ≡ End → length p / 64 ≤ n
+  pub record-end : record_at p n ≡ End → length p / 64 ≤ n
   record-end e = ltb-false n (length p / 64) (was-end (ltb n (length p / 64)) (byte_of p n 0) (n * 64) e)

@@ -15,8 +15,8 @@ use Rattle.schema.specs.Rows.{byte_of}
 use Rattle.packing.specs.declared.PackKind.{PackKind}
 use Rattle.packing.specs.Shape.{layout_of, shape_of}
 use Rattle.packing.specs.Clean.{clean}
-use Rattle.packing.specs.Packing.{inPlace, recordChecks}
-use Rattle.packing.specs.Starts.{recordsOf, reaches}
+use Rattle.packing.specs.Packing.{in_place, record_checks}
+use Rattle.packing.specs.Starts.{records_of, reaches}
 use Rattle.packing.specs.Runs.{RowTable, ListTable, RowRun, RowsPast, row-start, row_same, row_next}
 use Rattle.packing.proofs.Tests.{cases, and-next}
 use Rattle.packing.proofs.CheckRuns.{run-passes}
@@ -47,9 +47,9 @@ module _ {p : List ℕ} {u n : ℕ} {s : List ℕ} where
   row-end (row_next {r = m} x l e d) h = let q : m + 1 - 1 ≡ m = omega arith in rw q e
 
   -- a record after them, of the last table or a later one, is in its place where record n is
-  row-place : (kind : PackKind) {t r v : ℕ} {w : List ℕ} → RowTable u → inPlace kind p n ≡ true → RowRun p u n s t r w → RowTable v → t ≤ v → byte_of p r 0 ≡ v → inPlace kind p r ≡ true
+  row-place : (kind : PackKind) {t r v : ℕ} {w : List ℕ} → RowTable u → in_place kind p n ≡ true → RowRun p u n s t r w → RowTable v → t ≤ v → byte_of p r 0 ≡ v → in_place kind p r ≡ true
   row-place kind {t} {r} {v} l h x k i e = by_place r refl where
-    by_place : (m : ℕ) → r ≡ m → inPlace kind p r ≡ true
+    by_place : (m : ℕ) → r ≡ m → in_place kind p r ≡ true
     by_place zero z =
         let a = row-after x in
         let q : r ≡ n = omega arith in
@@ -61,15 +61,15 @@ module _ {p : List ℕ} {u n : ℕ} {s : List ℕ} where
 
 -- a record in its place, clean and without identities
 pub record Bare (kind : PackKind) (p : List ℕ) (j : ℕ) : Type 0 where
-  pub here : inPlace kind p j ≡ true
+  pub here : in_place kind p j ≡ true
   pub tidy : clean p j ≡ true
   pub unnamed : (layout_of (byte_of p j 0)).identities ≡ 0
 
-bare-passes : (kind : PackKind) (p batch house : List ℕ) (j : ℕ) → Bare kind p j → first (recordChecks kind p batch house j) ≡ Passed
-unfolding first run recordChecks
+bare-passes : (kind : PackKind) (p batch house : List ℕ) (j : ℕ) → Bare kind p j → first (record_checks kind p batch house j) ≡ Passed
+unfolding first run record_checks
 bare-passes kind p batch house j b = rw (b.here, b.tidy, b.unnamed)
 
-module _ (kind : PackKind) {p : List ℕ} {u n : ℕ} {s : List ℕ} (l : RowTable u) (h : inPlace kind p n ≡ true) where
+module _ (kind : PackKind) {p : List ℕ} {u n : ℕ} {s : List ℕ} (l : RowTable u) (h : in_place kind p n ≡ true) where
   one-bare : {t r v : ℕ} {w : List ℕ} → RowRun p u n s t r w → RowTable v → t ≤ v → byte_of p r 0 ≡ v → clean p r ≡ true → Bare kind p r
   one-bare x k i e d = record { here = row-place kind l h x k i e; tidy = d; unnamed = rw e k.unnamed }
 
@@ -80,21 +80,21 @@ module _ (kind : PackKind) {p : List ℕ} {u n : ℕ} {s : List ℕ} (l : RowTab
   row-bare (row_next {r = m} x k e d) j a b =
       and-next (Bare kind p) n m (λ i g q. row-bare x i g q) (one-bare x k (omega arith) e d) j a b
 
-  pub row-decides : (batch house : List ℕ) {t r : ℕ} {w : List ℕ} → RowRun p u n s t r w → Decides (run (recordChecks kind p batch house) n (r - n)) Passed
+  pub row-decides : (batch house : List ℕ) {t r : ℕ} {w : List ℕ} → RowRun p u n s t r w → Decides (run (record_checks kind p batch house) n (r - n)) Passed
   row-decides batch house {r = r} x =
       let a = row-after x in
-      record { is = sym (run-passes (recordChecks kind p batch house) n (r - n) (λ j b d. bare-passes kind p batch house j (row-bare x j b (omega arith)))) }
+      record { is = sym (run-passes (record_checks kind p batch house) n (r - n) (λ j b d. bare-passes kind p batch house j (row-bare x j b (omega arith)))) }
 
 -- a record of such a table reaches it, and not the next one
-reaches-row : (p : List ℕ) (t r : ℕ) → r < recordsOf p → RowTable t → byte_of p r 0 ≡ t → (reaches p t r ≡ true) × (reaches p (t + 1) r ≡ false)
+reaches-row : (p : List ℕ) (t r : ℕ) → r < records_of p → RowTable t → byte_of p r 0 ≡ t → (reaches p t r ≡ true) × (reaches p (t + 1) r ≡ false)
 reaches-row p t r h l e =
     let f = l.from in
-    let b = lt-ltb r (recordsOf p) h in
+    let b = lt-ltb r (records_of p) h in
     let d = le-ltb t 2 (omega arith) in
     (rw (b, e, d) (le-leb t t (omega arith)), rw (b, e, d) (lt-leb (t + 1) t (omega arith)))
 
 -- the starts of the run's tables are fixed
-pub row-fixed : {p : List ℕ} {u n : ℕ} {s : List ℕ} {t r : ℕ} {w : List ℕ} → RowTable u → RowRun p u n s t r w → r ≤ recordsOf p → Fixed p 1 s (u + 1) n → Fixed p 1 w (t + 1) r
+pub row-fixed : {p : List ℕ} {u n : ℕ} {s : List ℕ} {t r : ℕ} {w : List ℕ} → RowTable u → RowRun p u n s t r w → r ≤ records_of p → Fixed p 1 s (u + 1) n → Fixed p 1 w (t + 1) r
 row-fixed l row-start b f = f
 row-fixed {p} l (row_same {t = t} {r = m} x e d) b f =
     fixed-move (row-fixed l x (omega arith) f) (reaches-row p t m (omega arith) (row_last l x) e).1 (one-start p m (omega arith))

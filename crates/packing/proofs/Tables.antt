@@ -15,7 +15,7 @@ use Rattle.packing.proofs.Tests.{cases, both}
 use Rattle.packing.specs.declared.shape.Governed.{Governed}
 use Rattle.packing.specs.declared.shape.Shape.{Shape}
 use Rattle.packing.specs.Shape.{layout_of, used, governed, shape_of}
-use Rattle.packing.specs.Packing.{packFits, identityAt}
+use Rattle.packing.specs.Packing.{pack_fits, identity_at}
 use Rattle.packing.specs.Runs.{RowTable, ListTable}
 
 -- k is none of the n numbers from 0 on: what the last arm of a match over them knows
@@ -43,13 +43,13 @@ every-at f (l ∷ ls) d zero e h = (both (f l) (every f ls) e).0
 every-at f (l ∷ ls) d (suc t) e h = every-at f ls d t (both (f l) (every f ls) e).1 h
 
 -- a layout uses whole words of the record
-wordsUsed : Layout → Bool
-wordsUsed l = ltb 0 (used l) && (leb (used l) 64 && eqb (used l % 4) 0)
+words_used : Layout → Bool
+words_used l = ltb 0 (used l) && (leb (used l) 64 && eqb (used l % 4) 0)
 
 pub words-used : (t : ℕ) → (0 < used (layout_of t)) × ((used (layout_of t) ≤ 64) × (used (layout_of t) % 4 ≡ 0))
-unfolding layouts every wordsUsed
+unfolding layouts every words_used
 words-used t =
-    let a = both _ _ (every-at wordsUsed layouts (plain []) t refl refl) in
+    let a = both _ _ (every-at words_used layouts (plain []) t refl refl) in
     let b = both _ _ a.1 in
     (ltb-true _ _ a.0, (leb-true _ _ b.0, eqb-true _ _ b.1))
 
@@ -159,7 +159,7 @@ module _ (t j : ℕ) (h : j < (layout_of t).identities) where
       ((eqb-true _ _ a.0, eqb-true _ _ b.0), (eqb-true _ _ d.0, eqb-true _ _ d.1))
 
 -- the place that the bytes of a record give
-pub identity-place : (p : List ℕ) (n s j : ℕ) (b : Bool) (w v : ℕ) → s ≡ n * 64 → j < (layout_of (byte_of p n 0)).identities → b ≡ bit_of (get_or p (s + 1) 0) j → w ≡ number 4 p (s + 4 + 8 * j) → v ≡ number 4 p (s + 4 + 8 * j + 4) → ◌≡◌ {A = IdentityPlace} (record { house = b; start = w; len = v }) (identityAt p n j)
+pub identity-place : (p : List ℕ) (n s j : ℕ) (b : Bool) (w v : ℕ) → s ≡ n * 64 → j < (layout_of (byte_of p n 0)).identities → b ≡ bit_of (get_or p (s + 1) 0) j → w ≡ number 4 p (s + 4 + 8 * j) → v ≡ number 4 p (s + 4 + 8 * j + 4) → ◌≡◌ {A = IdentityPlace} (record { house = b; start = w; len = v }) (identity_at p n j)
 identity-place p n s j b w v e h eb ew ev =
     let f = identity-pair (byte_of p n 0) j h in
     let a : s + 4 + 8 * j ≡ n * 64 + offset (layout_of (byte_of p n 0)) (2 * j) = omega arith in
@@ -167,7 +167,7 @@ identity-place p n s j b w v e h eb ew ev =
     cc
 
 -- a pack of the right size
-pub pack-length : (p : List ℕ) → packFits p ≡ true → length p ≤ 4194304
+pub pack-length : (p : List ℕ) → pack_fits p ≡ true → length p ≤ 4194304
 pack-length p e =
     let s = (both (ltb 0 (length p)) (leb (length p) 4194304 && eqb (length p % 64) 0) e).1 in
     leb-true (length p) 4194304 (both (leb (length p) 4194304) (eqb (length p % 64) 0) s).0

@@ -2,7 +2,7 @@
 use Rattle.std.specs.Prelude.{ℕ, zero, suc, ◌*◌, ◌/◌, ◌%◌, Bool, ◌&&◌, ◌||◌, List, [], ◌∷◌, ltb, leb, eqb, length}
 use Rattle.identity.specs.declared.IdentityPlace.{IdentityPlace}
 use Rattle.identity.specs.Utf8.{utf8}
-use Rattle.identity.specs.Text.{placeInside, identityText}
+use Rattle.identity.specs.Text.{place_inside, identity_text}
 use Rattle.answers.specs.declared.Refusal.TheVariants.{Length, TextTooLong, TableOutOfPlace, StrayByte, IdentityOutside, NotUtf8}
 use Rattle.answers.specs.Checks.{Check, need, run}
 use Rattle.schema.specs.Layout.{layouts}
@@ -13,49 +13,49 @@ use Rattle.packing.specs.Shape.{layout_of}
 use Rattle.packing.specs.Clean.{clean}
 
 -- 64 to 4,194,304 bytes, whole records
-abbrev pub packFits : List ℕ → Bool
-packFits p = ltb 0 (length p) && (leb (length p) 4194304 && eqb (length p % 64) 0)
+abbrev pub pack_fits : List ℕ → Bool
+pack_fits p = ltb 0 (length p) && (leb (length p) 4194304 && eqb (length p % 64) 0)
 
-abbrev pub textFits : List ℕ → Bool
-textFits t = leb (length t) 65536
+abbrev pub text_fits : List ℕ → Bool
+text_fits t = leb (length t) 65536
 
 -- a row of table t after a record of table u: a table from 2 on that is known, in rising order
-abbrev pub rowAfter : ℕ → ℕ → Bool
-rowAfter u t = leb 2 t && (ltb t (length layouts) && leb u t)
+abbrev pub row_after : ℕ → ℕ → Bool
+row_after u t = leb 2 t && (ltb t (length layouts) && leb u t)
 
 -- the first record's table, and the table t of a record after one of table u
-abbrev pub firstTable : PackKind → ℕ
-firstTable Enclave = 1
-firstTable Federate = 0
+abbrev pub first_table : PackKind → ℕ
+first_table Enclave = 1
+first_table Federate = 0
 
-abbrev pub tableAfter : PackKind → ℕ → ℕ → Bool
-tableAfter Enclave u t = rowAfter u t
-tableAfter Federate u t = eqb t 1 || (leb 1 u && rowAfter u t)
+abbrev pub table_after : PackKind → ℕ → ℕ → Bool
+table_after Enclave u t = row_after u t
+table_after Federate u t = eqb t 1 || (leb 1 u && row_after u t)
 
 -- record n's table number is in its place
-abbrev pub inPlace : PackKind → List ℕ → ℕ → Bool
-inPlace kind p zero = eqb (byte_of p 0 0) (firstTable kind)
-inPlace kind p (suc n) = tableAfter kind (byte_of p n 0) (byte_of p (suc n) 0)
+abbrev pub in_place : PackKind → List ℕ → ℕ → Bool
+in_place kind p zero = eqb (byte_of p 0 0) (first_table kind)
+in_place kind p (suc n) = table_after kind (byte_of p n 0) (byte_of p (suc n) 0)
 
 -- identity j of record n: its place, and its checks
-abbrev pub identityAt : List ℕ → ℕ → ℕ → IdentityPlace
-identityAt p n j = place (bit_of (byte_of p n 1) j) (field p n (layout_of (byte_of p n 0))) (2 * j)
+abbrev pub identity_at : List ℕ → ℕ → ℕ → IdentityPlace
+identity_at p n j = place (bit_of (byte_of p n 1) j) (field p n (layout_of (byte_of p n 0))) (2 * j)
 
-abbrev pub identityChecks : List ℕ → List ℕ → List ℕ → ℕ → ℕ → List Check
-identityChecks p batch house n j =
-    need (placeInside batch house (identityAt p n j)) (IdentityOutside n)
-    ∷ need (utf8 (identityText batch house (identityAt p n j))) (NotUtf8 n)
+abbrev pub identity_checks : List ℕ → List ℕ → List ℕ → ℕ → ℕ → List Check
+identity_checks p batch house n j =
+    need (place_inside batch house (identity_at p n j)) (IdentityOutside n)
+    ∷ need (utf8 (identity_text batch house (identity_at p n j))) (NotUtf8 n)
     ∷ []
 
-unfoldable pub recordChecks : PackKind → List ℕ → List ℕ → List ℕ → ℕ → List Check
-recordChecks kind p batch house n =
-    need (inPlace kind p n) (TableOutOfPlace n)
+unfoldable pub record_checks : PackKind → List ℕ → List ℕ → List ℕ → ℕ → List Check
+record_checks kind p batch house n =
+    need (in_place kind p n) (TableOutOfPlace n)
     ∷ need (clean p n) (StrayByte n)
-    ∷ run (identityChecks p batch house n) 0 (layout_of (byte_of p n 0)).identities
+    ∷ run (identity_checks p batch house n) 0 (layout_of (byte_of p n 0)).identities
 
-unfoldable pub packingChecks : PackKind → List ℕ → List ℕ → List ℕ → List Check
-packingChecks kind p batch house =
-    need (packFits p) Length
-    ∷ need (textFits batch) (TextTooLong 0)
-    ∷ need (textFits house) (TextTooLong 1)
-    ∷ run (recordChecks kind p batch house) 0 (length p / 64)
+unfoldable pub packing_checks : PackKind → List ℕ → List ℕ → List ℕ → List Check
+packing_checks kind p batch house =
+    need (pack_fits p) Length
+    ∷ need (text_fits batch) (TextTooLong 0)
+    ∷ need (text_fits house) (TextTooLong 1)
+    ∷ run (record_checks kind p batch house) 0 (length p / 64)

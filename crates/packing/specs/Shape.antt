@@ -9,12 +9,12 @@ abbrev pub layout_of : ℕ → Layout
 layout_of t = get_or layouts t (plain [])
 
 -- the end of the fields that start at byte o
-abbrev pub endFrom : ℕ → List Field → ℕ
-endFrom o [] = o
-endFrom o (f ∷ fs) = endFrom (o + bytes f) fs
+abbrev pub end_from : ℕ → List Field → ℕ
+end_from o [] = o
+end_from o (f ∷ fs) = end_from (o + bytes f) fs
 
 abbrev pub used : Layout → ℕ
-used l = endFrom 4 l.fields
+used l = end_from 4 l.fields
 
 abbrev pub governs : ℕ → Field → Bool
 governs k W = false
@@ -22,16 +22,16 @@ governs k D = false
 governs k (W-if j) = eqb j k
 
 -- where the fields that bit k governs start, the fields from byte o on, and how many bytes they have; 0 and 0 where there is none
-abbrev pub governedOffset : ℕ → ℕ → List Field → ℕ
-governedOffset k o [] = 0
-governedOffset k o (f ∷ fs) = cond (governs k f) o (governedOffset k (o + bytes f) fs)
+abbrev pub governed_offset : ℕ → ℕ → List Field → ℕ
+governed_offset k o [] = 0
+governed_offset k o (f ∷ fs) = cond (governs k f) o (governed_offset k (o + bytes f) fs)
 
-abbrev pub governedBytes : ℕ → List Field → ℕ
-governedBytes k [] = 0
-governedBytes k (f ∷ fs) = cond (governs k f) (bytes f) 0 + governedBytes k fs
+abbrev pub governed_bytes : ℕ → List Field → ℕ
+governed_bytes k [] = 0
+governed_bytes k (f ∷ fs) = cond (governs k f) (bytes f) 0 + governed_bytes k fs
 
 abbrev pub governed : ℕ → Layout → Governed
-governed k l = record { offset = governedOffset k 4 l.fields; len = governedBytes k l.fields }
+governed k l = record { offset = governed_offset k 4 l.fields; len = governed_bytes k l.fields }
 
 abbrev pub shape : Layout → Shape
 shape l =

@@ -3,7 +3,7 @@ ghost use Rattle.std.specs.Prelude.{◌≡◌, true, not, ◌&&◌, ◌||◌, co
 ghost use Rattle.schema.specs.Rows.{byte_of};
 ghost use Rattle.packing.specs.Shape.{layout_of, shape_of};
 ghost use Rattle.packing.specs.Clean.{zeros, clean};
-ghost use Rattle.packing.specs.Runs.{PlainShape, CleanRun, ListTable, RowsPast, plainFrom, fieldsClean};
+ghost use Rattle.packing.specs.Runs.{PlainShape, CleanRun, ListTable, RowsPast, plain_from, fields_clean};
 
 use crate::shape::{Governed, LAST_LIST, Shape, shape_of};
 use schema::TableStarts;
@@ -94,7 +94,7 @@ fn absent_clean(present: bool, p: &[u8], start: usize, governed: Governed) -> bo
 // Bytes 1 to 3 of record n and the fields that its presence bits govern, by the shape of `table`: where that is a constant, the tests of the shape are compiled away.
 pub fn fields_clean(p: &[u8], n: usize, table: u8) -> bool
     requires { n < length p.now / 64 }
-    ensures { result ≡ fieldsClean (layout_of table) p.now n }
+    ensures { result ≡ fields_clean (layout_of table) p.now n }
 {
     let start = n * 64;
     let shape = shape_of(table);
@@ -145,7 +145,7 @@ pub fn clean(p: &[u8], n: usize, table: u8, shape: Shape) -> bool
 // Whether the record at `start` is clean, by a shape that governs no field and uses at most half of it.
 fn is_plain(p: &[u8], start: usize, shape: Shape) -> bool
     requires { (start + 64 ≤ length p.now) × (shape.used ≤ 32) }
-    ensures { result ≡ plainFrom shape p.now start }
+    ensures { result ≡ plain_from shape p.now start }
 {
     if !head_clean(shape, p[start + 1], p[start + 2], p[start + 3]) {
         return false;

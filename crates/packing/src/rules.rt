@@ -3,9 +3,9 @@ ghost use Rattle.std.specs.Prelude.{◌≡◌, true, ◌*◌, ◌-◌, ◌/◌, 
 ghost use Rattle.answers.specs.Checks.{first, run, Decides};
 ghost use Rattle.schema.specs.Rows.{byte_of, bit_of};
 ghost use Rattle.packing.specs.Shape.{layout_of};
-ghost use Rattle.packing.specs.Packing.{packFits, textFits, rowAfter, firstTable, tableAfter, inPlace, identityAt, identityChecks, recordChecks, packingChecks};
-ghost use Rattle.packing.specs.Starts.{startsAfter};
-ghost use Rattle.packing.specs.Runs.{NamedRun, RunLimit, NamedPassed, After, RowsFixed, namedChecks};
+ghost use Rattle.packing.specs.Packing.{pack_fits, text_fits, row_after, first_table, table_after, in_place, identity_at, identity_checks, record_checks, packing_checks};
+ghost use Rattle.packing.specs.Starts.{starts_after};
+ghost use Rattle.packing.specs.Runs.{NamedRun, RunLimit, NamedPassed, After, RowsFixed, named_checks};
 
 use crate::PackKind;
 use crate::clean::{past_clean, wide};
@@ -23,26 +23,26 @@ const MAX_PACK: usize = 4194304;
 const MAX_TEXT: usize = 65536;
 
 fn pack_fits(pack: &[u8]) -> bool
-    ensures { result ≡ packFits pack.now }
+    ensures { result ≡ pack_fits pack.now }
 {
     let len = pack.len();
     (0 < len) & ((len <= MAX_PACK) & (len % 64 == 0))
 }
 
 fn text_fits(text: &[u8]) -> bool
-    ensures { result ≡ textFits text.now }
+    ensures { result ≡ text_fits text.now }
 {
     text.len() <= MAX_TEXT
 }
 
 fn row_after(previous: u8, table: u8) -> bool
-    ensures { result ≡ rowAfter previous table }
+    ensures { result ≡ row_after previous table }
 {
     (2 <= table) & (((table as usize) < TABLES) & (previous <= table))
 }
 
 fn first_table(kind: PackKind) -> u8
-    ensures { result ≡ firstTable kind }
+    ensures { result ≡ first_table kind }
 {
     match kind {
         PackKind::Enclave => 1,
@@ -52,7 +52,7 @@ fn first_table(kind: PackKind) -> u8
 
 // Whether a record of `table` may follow one of `previous`.
 fn table_after(kind: PackKind, previous: u8, table: u8) -> bool
-    ensures { result ≡ tableAfter kind previous table }
+    ensures { result ≡ table_after kind previous table }
 {
     let row = row_after(previous, table);
     match kind {
@@ -64,7 +64,7 @@ fn table_after(kind: PackKind, previous: u8, table: u8) -> bool
 // Whether record n, of `table`, is in its place.
 fn in_place(kind: PackKind, pack: &[u8], n: usize, table: u8) -> bool
     requires { (n < length pack.now / 64) × (table ≡ byte_of pack.now n 0) }
-    ensures { result ≡ inPlace kind pack.now n }
+    ensures { result ≡ in_place kind pack.now n }
 {
     if n == 0 {
         return table == first_table(kind);
@@ -84,7 +84,7 @@ fn bit_at(b: u8, j: u8) -> bool
 // The place of identity j of the record at `start`.
 fn identity_at(pack: &[u8], n: u32, start: usize, j: u8) -> IdentityPlace
     requires { (start ≡ n * 64) × ((n < length pack.now / 64) × (j < (layout_of (byte_of pack.now n 0)).identities)) }
-    ensures { result ≡ identityAt pack.now n j }
+    ensures { result ≡ identity_at pack.now n j }
 {
     let pair = words_inside(pack, start + 4 + 8 * (j as usize));
     IdentityPlace {
@@ -104,7 +104,7 @@ fn check_identity<'a>(
     j: u8,
 ) -> Outcome
     requires { (start ≡ n * 64) × ((n < length pack.now / 64) × (j < (layout_of (byte_of pack.now n 0)).identities)) }
-    ensures { Decides (identityChecks pack.now batch.now house.now n j) result }
+    ensures { Decides (identity_checks pack.now batch.now house.now n j) result }
 {
     let id = identity_at(pack, n, start, j);
     if !identity::place::place_inside(batch, house, id) {
@@ -126,7 +126,7 @@ fn check_identities<'a>(
     count: u8,
 ) -> Outcome
     requires { (start ≡ n * 64) × ((n < length pack.now / 64) × (count ≡ (layout_of (byte_of pack.now n 0)).identities)) }
-    ensures { Decides (run (identityChecks pack.now batch.now house.now n) 0 count) result }
+    ensures { Decides (run (identity_checks pack.now batch.now house.now n) 0 count) result }
 {
     let mut j = 0;
     while j < count {
@@ -148,7 +148,7 @@ fn named_past<'a>(
     next: usize,
     count: u8,
 ) -> usize
-    requires { (packFits pack.now ≡ true) × NamedRun pack.now n next count }
+    requires { (pack_fits pack.now ≡ true) × NamedRun pack.now n next count }
     ensures { NamedPassed pack.now batch.now house.now n next result }
 {
     if count != 1 {
@@ -174,8 +174,8 @@ fn check_named<'a>(
     next: usize,
     count: u8,
 ) -> Outcome
-    requires { (packFits pack.now ≡ true) × NamedRun pack.now n next count }
-    ensures { Decides (run (namedChecks pack.now batch.now house.now) n (next - n)) result }
+    requires { (pack_fits pack.now ≡ true) × NamedRun pack.now n next count }
+    ensures { Decides (run (named_checks pack.now batch.now house.now) n (next - n)) result }
 {
     if count == 0 {
         return Outcome::Passed;
@@ -226,7 +226,7 @@ fn place_row(
     table: u8,
 ) -> bool
     requires { (n < length pack.now / 64) × ((length pack.now / 64 < 4294967296) × ((table ≡ byte_of pack.now n 0) × After kind pack.now n t)) }
-    ensures { (result ≡ inPlace kind pack.now n) × (result ≡ true → RowsFixed kind n table t starts.old starts.new) }
+    ensures { (result ≡ in_place kind pack.now n) × (result ≡ true → RowsFixed kind n table t starts.old starts.new) }
 {
     let u = wide(table);
     if (u == t) & (u < TABLES) {
@@ -248,9 +248,9 @@ fn check_records<'a>(
     house: &'a [u8],
     starts: &mut TableStarts,
 ) -> Outcome
-    requires { packFits pack.now ≡ true }
-    ensures decides { Decides (run (recordChecks kind pack.now batch.now house.now) 0 (length pack.now / 64)) result }
-    ensures starts_after { kind ≡ PackKind.Enclave → starts.new ≡ startsAfter result pack.now starts.old }
+    requires { pack_fits pack.now ≡ true }
+    ensures decides { Decides (run (record_checks kind pack.now batch.now house.now) 0 (length pack.now / 64)) result }
+    ensures starts_after { kind ≡ PackKind.Enclave → starts.new ≡ starts_after result pack.now starts.old }
 {
     let mut found = [1u32; 26];
     let mut t: usize = 26;
@@ -298,8 +298,8 @@ fn check_parts<'a>(
     house: &'a [u8],
     starts: &mut TableStarts,
 ) -> Outcome
-    ensures value { result ≡ first (packingChecks kind pack.now batch.now house.now) }
-    ensures starts_after { kind ≡ PackKind.Enclave → starts.new ≡ startsAfter result pack.now starts.old }
+    ensures value { result ≡ first (packing_checks kind pack.now batch.now house.now) }
+    ensures starts_after { kind ≡ PackKind.Enclave → starts.new ≡ starts_after result pack.now starts.old }
 {
     if !pack_fits(pack) {
         return Outcome::Refused(Refusal::Length);
@@ -320,7 +320,7 @@ pub fn check_packing<'a>(
     batch: &'a [u8],
     house: &'a [u8],
 ) -> Outcome
-    ensures { result ≡ first (packingChecks kind pack.now batch.now house.now) }
+    ensures { result ≡ first (packing_checks kind pack.now batch.now house.now) }
 {
     let mut starts = [0u32; 26];
     check_parts(kind, pack, batch, house, &mut starts)
@@ -333,8 +333,8 @@ pub fn check_enclave_packing<'a>(
     house: &'a [u8],
     starts: &mut TableStarts,
 ) -> Outcome
-    ensures value { result ≡ first (packingChecks PackKind.Enclave pack.now batch.now house.now) }
-    ensures starts_after { starts.new ≡ startsAfter result pack.now starts.old }
+    ensures value { result ≡ first (packing_checks PackKind.Enclave pack.now batch.now house.now) }
+    ensures starts_after { starts.new ≡ starts_after result pack.now starts.old }
 {
     check_parts(PackKind::Enclave, pack, batch, house, starts)
 }

@@ -1,7 +1,7 @@
 // Where each table of an enclave begins, in one pass over its records.
 ghost use Rattle.std.specs.Prelude.{◌≡◌, ◌+◌, ◌<◌};
-ghost use Rattle.packing.specs.Starts.{recordsOf, tableStarts};
-ghost use Rattle.packing.specs.Runs.{OneTable, ofTable, Reached, FixedAt};
+ghost use Rattle.packing.specs.Starts.{records_of, table_starts};
+ghost use Rattle.packing.specs.Runs.{OneTable, of_table, Reached, FixedAt};
 
 use schema::TableStarts;
 
@@ -9,7 +9,7 @@ const MAX_RECORDS: usize = 65536;
 
 // The records that are looked at.
 fn records_of(p: &[u8]) -> usize
-    ensures { result ≡ recordsOf p.now }
+    ensures { result ≡ records_of p.now }
 {
     let records = p.len() / 64;
     if records < MAX_RECORDS {
@@ -20,7 +20,7 @@ fn records_of(p: &[u8]) -> usize
 
 // The last table whose first record is at or before record k: 25, the end, past the enclave's records and past the last table.
 fn reached(p: &[u8], records: usize, k: u32) -> usize
-    requires { records ≡ recordsOf p.now }
+    requires { records ≡ records_of p.now }
     ensures { Reached p.now k result }
 {
     let place = k as usize;
@@ -49,8 +49,8 @@ pub fn fix_starts(starts: &mut [u32; 26], t: usize, last: usize, k: u32) -> usiz
 
 // Whether there is a record n, and it is of the table.
 fn is_of(p: &[u8], records: usize, n: u32, table: u8) -> bool
-    requires { records ≡ recordsOf p.now }
-    ensures { result ≡ ofTable p.now n table }
+    requires { records ≡ records_of p.now }
+    ensures { result ≡ of_table p.now n table }
 {
     let place = n as usize;
     if records <= place {
@@ -61,7 +61,7 @@ fn is_of(p: &[u8], records: usize, n: u32, table: u8) -> bool
 
 // The first record after record k that is of another table, or the end.
 fn past_each(p: &[u8], records: usize, k: u32) -> u32
-    requires { (records ≡ recordsOf p.now) × (k < records) }
+    requires { (records ≡ records_of p.now) × (k < records) }
     ensures { OneTable p.now k result }
 {
     let table = p[k as usize * 64];
@@ -74,7 +74,7 @@ fn past_each(p: &[u8], records: usize, k: u32) -> u32
 
 // The starts of the tables in the enclave whose rows start at record `rows`. A turn fixes those of the tables that record k reaches, and moves past its table.
 pub fn table_starts(p: &[u8], rows: u32) -> TableStarts
-    ensures { result ≡ tableStarts p.now rows }
+    ensures { result ≡ table_starts p.now rows }
 {
     let records = records_of(p);
     let mut starts = [0u32; 26];

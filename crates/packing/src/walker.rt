@@ -1,6 +1,6 @@
 // A thin walker over the records of a lent pack. The work is in `record_at` and `next_record`, by slice and number.
 ghost use Rattle.std.specs.Prelude.{◌≡◌};
-ghost use Rattle.packing.specs.Records.{recordAt, next_of};
+ghost use Rattle.packing.specs.Records.{record_at, next_of};
 
 #[derive(Drop)]
 pub struct RecordWalker<'a> {
@@ -16,7 +16,7 @@ pub enum Record {
 }
 
 pub fn record_at(pack: &[u8], place: usize) -> Record
-    ensures { result ≡ recordAt pack.now place }
+    ensures { result ≡ record_at pack.now place }
 {
     if place < pack.len() / 64 {
         let start = place * 64;
@@ -46,14 +46,14 @@ pub fn walker_at<'a>(pack: &'a [u8], place: usize) -> RecordWalker<'a>
 
 // The record where the walker stands.
 pub fn current<'a>(w: RecordWalker<'a>) -> Record
-    ensures { result ≡ recordAt w.entry.pack.now w.entry.place }
+    ensures { result ≡ record_at w.entry.pack.now w.entry.place }
 {
     record_at(w.pack, w.place)
 }
 
 // Yields the record where the walker stands, and moves it on.
 pub fn step<'s, 'a>(w: &'s mut RecordWalker<'a>) -> Record
-    ensures { (result ≡ recordAt w.old.pack.now w.old.place) × ((w.new.pack ≡ w.old.pack) × (w.new.place ≡ next_of w.old.pack.now w.old.place)) }
+    ensures { (result ≡ record_at w.old.pack.now w.old.place) × ((w.new.pack ≡ w.old.pack) × (w.new.place ≡ next_of w.old.pack.now w.old.place)) }
 {
     let r = record_at(w.pack, w.place);
     let n = next_record(w.pack, w.place);
@@ -63,7 +63,7 @@ pub fn step<'s, 'a>(w: &'s mut RecordWalker<'a>) -> Record
 
 // With plain parameters: what all others call.
 pub fn record_by_walker(pack: &[u8], place: usize) -> Record
-    ensures { result ≡ recordAt pack.now place }
+    ensures { result ≡ record_at pack.now place }
 {
     current(walker_at(pack, place))
 }

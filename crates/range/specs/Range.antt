@@ -4,17 +4,17 @@ use Rattle.range.specs.declared.CheckedEnd.{CheckedEnd}
 use Rattle.range.specs.declared.CheckedEnd.TheVariants.{End, NoEnd}
 
 -- an end past 64 bits is no end
-unfoldable pub checkedEnd : ℕ → ℕ → CheckedEnd
-checkedEnd start len = cond (ltb (start + len) (2 ^ 64)) (End (start + len)) NoEnd
+unfoldable pub checked_end : ℕ → ℕ → CheckedEnd
+checked_end start len = cond (ltb (start + len) (2 ^ 64)) (End (start + len)) NoEnd
 
 -- the end, or the largest 64-bit number where there is none
-abbrev pub endOr : CheckedEnd → ℕ
-endOr (End e) = e
-endOr NoEnd = 2 ^ 64 - 1
+abbrev pub end_or : CheckedEnd → ℕ
+end_or (End e) = e
+end_or NoEnd = 2 ^ 64 - 1
 
-unfoldable pub saturatingEnd : ℕ → ℕ → ℕ
-saturatingEnd start len = endOr (checkedEnd start len)
+unfoldable pub saturating_end : ℕ → ℕ → ℕ
+saturating_end start len = end_or (checked_end start len)
 
 -- a key is at least the start and below the end
 unfoldable pub contains : ℕ → ℕ → ℕ → Bool
-contains start len key = leb start key && ltb key (saturatingEnd start len)
+contains start len key = leb start key && ltb key (saturating_end start len)

@@ -1,6 +1,6 @@
 // Slice ranges and index spans: where each ends, and whether a span holds a key.
 ghost use Rattle.std.specs.Prelude.{◌≡◌};
-ghost use Rattle.range.specs.Range.{checkedEnd, saturatingEnd, contains};
+ghost use Rattle.range.specs.Range.{checked_end, saturating_end, contains};
 
 // The exclusive end of a range or a span. An end past 64 bits is no end.
 #[derive(Drop)]
@@ -32,14 +32,14 @@ pub struct EnclaveSpan(pub IndexSpan);
 
 impl SliceRange {
     pub fn checked_end(self) -> CheckedEnd
-        ensures { result ≡ checkedEnd self.start self.len }
+        ensures { result ≡ checked_end self.start self.len }
     {
         self.span().checked_end()
     }
 
     // Two 32-bit numbers always have an end: it is their sum.
     pub fn saturating_end(self) -> u64
-        ensures { result ≡ saturatingEnd self.start self.len }
+        ensures { result ≡ saturating_end self.start self.len }
     {
         self.start as u64 + self.len as u64
     }
@@ -57,7 +57,7 @@ impl SliceRange {
 
 impl IndexSpan {
     pub fn checked_end(self) -> CheckedEnd
-        ensures { result ≡ checkedEnd self.start self.len }
+        ensures { result ≡ checked_end self.start self.len }
     {
         let room = 0xFFFF_FFFF_FFFF_FFFF - self.start;
         if self.len <= room {
@@ -68,7 +68,7 @@ impl IndexSpan {
 
     // The end, or the largest 64-bit number where there is none.
     pub fn saturating_end(self) -> u64
-        ensures { result ≡ saturatingEnd self.start self.len }
+        ensures { result ≡ saturating_end self.start self.len }
     {
         let CheckedEnd::End(end) = self.checked_end() else {
             return 0xFFFF_FFFF_FFFF_FFFF;

@@ -8,23 +8,23 @@ use Rattle.schema.specs.declared.index.MaybeBinding.TheVariants.{NoBinding, Bind
 use Rattle.schema.specs.declared.index.BindingKind.TheVariants.{Action}
 use Rattle.schema.specs.declared.rows.RequiredBindingImage.{RequiredBindingImage}
 use Rattle.checks.specs.Image.{Image, ActionPart}
-use Rattle.checks.specs.Refs.{refTo, rangeChecks, rangeEnd, endBefore}
-use Rattle.row_checks.specs.Bindings.{bindingChecks}
-use Rattle.row_checks.specs.Reactors.{slotChecks}
+use Rattle.checks.specs.Refs.{ref_to, range_checks, range_end, end_before}
+use Rattle.row_checks.specs.Bindings.{binding_checks}
+use Rattle.row_checks.specs.Reactors.{slot_checks}
 
 -- a standard action has a binding, a timer and a shutdown have none
-abbrev pub actionBindingChecks : (ℕ → ℕ) → (ℕ → RequiredBindingImage) → ℕ → Bool → MaybeBinding → List Check
-actionBindingChecks rows bindings i true (Binding b) = bindingChecks rows bindings 3 i field.binding Action b.0
-actionBindingChecks rows bindings i true NoBinding = need false (BindingPresenceMismatch 3 i field.binding) ∷ []
-actionBindingChecks rows bindings i false (Binding b) = need false (BindingPresenceMismatch 3 i field.binding) ∷ []
-actionBindingChecks rows bindings i false NoBinding = []
+abbrev pub action_binding_checks : (ℕ → ℕ) → (ℕ → RequiredBindingImage) → ℕ → Bool → MaybeBinding → List Check
+action_binding_checks rows bindings i true (Binding b) = binding_checks rows bindings 3 i field.binding Action b.0
+action_binding_checks rows bindings i true NoBinding = need false (BindingPresenceMismatch 3 i field.binding) ∷ []
+action_binding_checks rows bindings i false (Binding b) = need false (BindingPresenceMismatch 3 i field.binding) ∷ []
+action_binding_checks rows bindings i false NoBinding = []
 
-abbrev pub actionRow : Image → ℕ → ActionPart → ℕ → List Check
-actionRow m i row previous =
-    (refTo m.rows 3 i field.scope 7 row.scope ∷ [])
-    ++ (slotChecks 3 m.actionSlots i row.slot
-    ++ (actionBindingChecks m.rows m.bindings i row.standard row.binding
-    ++ rangeChecks m.rows 3 i field.triggers 8 row.triggers previous))
+abbrev pub action_row : Image → ℕ → ActionPart → ℕ → List Check
+action_row m i row previous =
+    (ref_to m.rows 3 i field.scope 7 row.scope ∷ [])
+    ++ (slot_checks 3 m.action_slots i row.slot
+    ++ (action_binding_checks m.rows m.bindings i row.standard row.binding
+    ++ range_checks m.rows 3 i field.triggers 8 row.triggers previous))
 
-unfoldable pub actionChecks : Image → ℕ → List Check
-actionChecks m i = actionRow m i (m.actions i) (endBefore (λ j. rangeEnd (m.actions j).triggers) i)
+unfoldable pub action_checks : Image → ℕ → List Check
+action_checks m i = action_row m i (m.actions i) (end_before (λ j. range_end (m.actions j).triggers) i)

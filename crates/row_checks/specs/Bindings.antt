@@ -5,18 +5,18 @@ use Rattle.answers.specs.Checks.{Check, need}
 use Rattle.schema.specs.declared.index.BindingKind.{BindingKind}
 use Rattle.schema.specs.declared.index.BindingKind.TheVariants.{StateInitializer, Reaction, Port, Action}
 use Rattle.schema.specs.declared.rows.RequiredBindingImage.{RequiredBindingImage}
-use Rattle.checks.specs.Refs.{refTo}
+use Rattle.checks.specs.Refs.{ref_to}
 
-abbrev pub kindNumber : BindingKind → ℕ
-kindNumber StateInitializer = 0
-kindNumber Reaction = 1
-kindNumber Port = 2
-kindNumber Action = 3
+abbrev pub kind_number : BindingKind → ℕ
+kind_number StateInitializer = 0
+kind_number Reaction = 1
+kind_number Port = 2
+kind_number Action = 3
 
-abbrev pub sameKind : BindingKind → BindingKind → Bool
-sameKind a b = eqb (kindNumber a) (kindNumber b)
+abbrev pub same_kind : BindingKind → BindingKind → Bool
+same_kind a b = eqb (kind_number a) (kind_number b)
 
 -- row i of table t names binding v in the field f, which must be of the given kind
-abbrev pub bindingChecks : (ℕ → ℕ) → (ℕ → RequiredBindingImage) → ℕ → ℕ → ℕ → BindingKind → ℕ → List Check
-bindingChecks rows bindings t i f kind v =
-    refTo rows t i f 24 v ∷ need (sameKind (bindings v).kind kind) (BindingKindMismatch t i f) ∷ []
+abbrev pub binding_checks : (ℕ → ℕ) → (ℕ → RequiredBindingImage) → ℕ → ℕ → ℕ → BindingKind → ℕ → List Check
+binding_checks rows bindings t i f kind v =
+    ref_to rows t i f 24 v ∷ need (same_kind (bindings v).kind kind) (BindingKindMismatch t i f) ∷ []

@@ -10,25 +10,25 @@ use Rattle.schema.specs.declared.rows.ModeImage.{ModeImage}
 use Rattle.schema.specs.declared.rows.ReactorImage.{ReactorImage}
 use Rattle.schema.specs.declared.rows.ScopeImage.{ScopeImage}
 use Rattle.checks.specs.Image.{Image}
-use Rattle.checks.specs.Refs.{refTo}
+use Rattle.checks.specs.Refs.{ref_to}
 
-abbrev pub isMode : ℕ → MaybeMode → Bool
-isMode i NoMode = false
-isMode i (Mode m) = eqb m.0 i
+abbrev pub is_mode : ℕ → MaybeMode → Bool
+is_mode i NoMode = false
+is_mode i (Mode m) = eqb m.0 i
 
 -- the scope is the mode's reactor's, and the mode's own; the reactor's span holds the mode
-abbrev pub modeOwnerChecks : ℕ → ModeImage → ReactorImage → ScopeImage → List Check
-modeOwnerChecks i row reactor scope =
-    need (eqb scope.reactor.0 row.reactor.0) (OwnershipMismatch 6 i field.scopeReactor)
-    ∷ need (isMode i scope.mode) (OwnershipMismatch 6 i field.scopeMode)
-    ∷ need (contains reactor.modes.0.start reactor.modes.0.len i) (OwnershipMismatch 6 i field.reactorModes)
+abbrev pub mode_owner_checks : ℕ → ModeImage → ReactorImage → ScopeImage → List Check
+mode_owner_checks i row reactor scope =
+    need (eqb scope.reactor.0 row.reactor.0) (OwnershipMismatch 6 i field.scope_reactor)
+    ∷ need (is_mode i scope.mode) (OwnershipMismatch 6 i field.scope_mode)
+    ∷ need (contains reactor.modes.0.start reactor.modes.0.len i) (OwnershipMismatch 6 i field.reactor_modes)
     ∷ []
 
-abbrev pub modeRow : Image → ℕ → ModeImage → List Check
-modeRow m i row =
-    refTo m.rows 6 i field.reactor 2 row.reactor.0
-    ∷ refTo m.rows 6 i field.scope 7 row.scope.0
-    ∷ modeOwnerChecks i row (m.reactors row.reactor.0) (m.scopes row.scope.0)
+abbrev pub mode_row : Image → ℕ → ModeImage → List Check
+mode_row m i row =
+    ref_to m.rows 6 i field.reactor 2 row.reactor.0
+    ∷ ref_to m.rows 6 i field.scope 7 row.scope.0
+    ∷ mode_owner_checks i row (m.reactors row.reactor.0) (m.scopes row.scope.0)
 
-unfoldable pub modeChecks : Image → ℕ → List Check
-modeChecks m i = modeRow m i (m.modes i)
+unfoldable pub mode_checks : Image → ℕ → List Check
+mode_checks m i = mode_row m i (m.modes i)

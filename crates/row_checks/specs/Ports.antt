@@ -5,14 +5,14 @@ use Rattle.answers.specs.Checks.{Check}
 use Rattle.schema.specs.declared.index.BindingKind.TheVariants.{Port}
 use Rattle.schema.specs.declared.rows.PortImage.{PortImage}
 use Rattle.checks.specs.Image.{Image}
-use Rattle.checks.specs.Refs.{refTo, rangeChecks, rangeEnd, endBefore}
-use Rattle.row_checks.specs.Bindings.{bindingChecks}
+use Rattle.checks.specs.Refs.{ref_to, range_checks, range_end, end_before}
+use Rattle.row_checks.specs.Bindings.{binding_checks}
 
-abbrev pub portRow : Image → ℕ → PortImage → ℕ → List Check
-portRow m i row previous =
-    bindingChecks m.rows m.bindings 4 i field.binding Port row.binding.0
-    ++ ((refTo m.rows 4 i field.scope 7 row.scope.0 ∷ [])
-    ++ rangeChecks m.rows 4 i field.triggers 8 row.triggers previous)
+abbrev pub port_row : Image → ℕ → PortImage → ℕ → List Check
+port_row m i row previous =
+    binding_checks m.rows m.bindings 4 i field.binding Port row.binding.0
+    ++ ((ref_to m.rows 4 i field.scope 7 row.scope.0 ∷ [])
+    ++ range_checks m.rows 4 i field.triggers 8 row.triggers previous)
 
-unfoldable pub portChecks : Image → ℕ → List Check
-portChecks m i = portRow m i (m.ports i) (endBefore (λ j. rangeEnd (m.ports j).triggers) i)
+unfoldable pub port_checks : Image → ℕ → List Check
+port_checks m i = port_row m i (m.ports i) (end_before (λ j. range_end (m.ports j).triggers) i)

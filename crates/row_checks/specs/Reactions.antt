@@ -8,62 +8,62 @@ use Rattle.schema.specs.declared.index.MaybeMode.TheVariants.{NoMode, Mode}
 use Rattle.schema.specs.declared.index.BindingKind.TheVariants.{Reaction}
 use Rattle.schema.specs.declared.rows.ModeImage.{ModeImage}
 use Rattle.checks.specs.Image.{Image, ReactionPart}
-use Rattle.checks.specs.Refs.{refTo, rangeChecks, rangeEnd, endBefore}
+use Rattle.checks.specs.Refs.{ref_to, range_checks, range_end, end_before}
 use Rattle.row_checks.specs.declared.reactions.ReactionEnds.{ReactionEnds}
-use Rattle.row_checks.specs.Bindings.{bindingChecks}
+use Rattle.row_checks.specs.Bindings.{binding_checks}
 
 -- the target of a mode effect is there, and a mode of the reaction's reactor
-abbrev pub effectChecks : (ℕ → ℕ) → (ℕ → ModeImage) → ℕ → ℕ → MaybeMode → List Check
-effectChecks rows modes i reactor NoMode = []
-effectChecks rows modes i reactor (Mode m) =
-    refTo rows 5 i field.modeEffectTarget 6 m.0
-    ∷ need (eqb (modes m.0).reactor.0 reactor) (OwnershipMismatch 5 i field.modeEffectTargetReactor)
+abbrev pub effect_checks : (ℕ → ℕ) → (ℕ → ModeImage) → ℕ → ℕ → MaybeMode → List Check
+effect_checks rows modes i reactor NoMode = []
+effect_checks rows modes i reactor (Mode m) =
+    ref_to rows 5 i field.mode_effect_target 6 m.0
+    ∷ need (eqb (modes m.0).reactor.0 reactor) (OwnershipMismatch 5 i field.mode_effect_target_reactor)
     ∷ []
 
 -- reactor, scope and binding are there; the scope is the reactor's
-abbrev pub reactionOwnerChecks : Image → ℕ → ReactionPart → List Check
-reactionOwnerChecks m i row =
-    (refTo m.rows 5 i field.reactor 2 row.reactor ∷ [])
-    ++ ((refTo m.rows 5 i field.scope 7 row.scope ∷ [])
-    ++ (bindingChecks m.rows m.bindings 5 i field.binding Reaction row.binding
-    ++ (need (eqb (m.scopes row.scope).reactor.0 row.reactor) (OwnershipMismatch 5 i field.scopeReactor) ∷ [])))
+abbrev pub reaction_owner_checks : Image → ℕ → ReactionPart → List Check
+reaction_owner_checks m i row =
+    (ref_to m.rows 5 i field.reactor 2 row.reactor ∷ [])
+    ++ ((ref_to m.rows 5 i field.scope 7 row.scope ∷ [])
+    ++ (binding_checks m.rows m.bindings 5 i field.binding Reaction row.binding
+    ++ (need (eqb (m.scopes row.scope).reactor.0 row.reactor) (OwnershipMismatch 5 i field.scope_reactor) ∷ [])))
 
 -- where the four ranges of a row end
-abbrev pub reactionEndsOf : ReactionPart → ReactionEnds
-reactionEndsOf row =
+abbrev pub reaction_ends_of : ReactionPart → ReactionEnds
+reaction_ends_of row =
     record {
-      uses = rangeEnd row.uses;
-      effects = rangeEnd row.effects;
-      actions = rangeEnd row.actions;
-      enabled = rangeEnd row.enabled;
+      uses = range_end row.uses;
+      effects = range_end row.effects;
+      actions = range_end row.actions;
+      enabled = range_end row.enabled;
     }
 
-abbrev pub noReactionEnds : ReactionEnds
-noReactionEnds = record { uses = 0; effects = 0; actions = 0; enabled = 0 }
+abbrev pub no_reaction_ends : ReactionEnds
+no_reaction_ends = record { uses = 0; effects = 0; actions = 0; enabled = 0 }
 
 -- where the ranges of the row before end
-unfoldable pub reactionEndsBefore : (ℕ → ReactionPart) → ℕ → ReactionEnds
-reactionEndsBefore reactions i =
+unfoldable pub reaction_ends_before : (ℕ → ReactionPart) → ℕ → ReactionEnds
+reaction_ends_before reactions i =
     record {
-      uses = endBefore (λ j. rangeEnd (reactions j).uses) i;
-      effects = endBefore (λ j. rangeEnd (reactions j).effects) i;
-      actions = endBefore (λ j. rangeEnd (reactions j).actions) i;
-      enabled = endBefore (λ j. rangeEnd (reactions j).enabled) i;
+      uses = end_before (λ j. range_end (reactions j).uses) i;
+      effects = end_before (λ j. range_end (reactions j).effects) i;
+      actions = end_before (λ j. range_end (reactions j).actions) i;
+      enabled = end_before (λ j. range_end (reactions j).enabled) i;
     }
 
 -- the four ranges, each against the end of the row before
-abbrev pub reactionRangeChecks : (ℕ → ℕ) → ℕ → ReactionPart → ReactionEnds → List Check
-reactionRangeChecks rows i row previous =
-    rangeChecks rows 5 i field.usePorts 9 row.uses previous.uses
-    ++ (rangeChecks rows 5 i field.effectPorts 10 row.effects previous.effects
-    ++ (rangeChecks rows 5 i field.actions 11 row.actions previous.actions
-    ++ rangeChecks rows 5 i field.enabledModes 12 row.enabled previous.enabled))
+abbrev pub reaction_range_checks : (ℕ → ℕ) → ℕ → ReactionPart → ReactionEnds → List Check
+reaction_range_checks rows i row previous =
+    range_checks rows 5 i field.use_ports 9 row.uses previous.uses
+    ++ (range_checks rows 5 i field.effect_ports 10 row.effects previous.effects
+    ++ (range_checks rows 5 i field.actions 11 row.actions previous.actions
+    ++ range_checks rows 5 i field.enabled_modes 12 row.enabled previous.enabled))
 
-abbrev pub reactionRow : Image → ℕ → ReactionPart → ReactionEnds → List Check
-reactionRow m i row previous =
-    reactionOwnerChecks m i row
-    ++ (effectChecks m.rows m.modes i row.reactor row.target
-    ++ reactionRangeChecks m.rows i row previous)
+abbrev pub reaction_row : Image → ℕ → ReactionPart → ReactionEnds → List Check
+reaction_row m i row previous =
+    reaction_owner_checks m i row
+    ++ (effect_checks m.rows m.modes i row.reactor row.target
+    ++ reaction_range_checks m.rows i row previous)
 
-unfoldable pub reactionChecks : Image → ℕ → List Check
-reactionChecks m i = reactionRow m i (m.reactions i) (reactionEndsBefore m.reactions i)
+unfoldable pub reaction_checks : Image → ℕ → List Check
+reaction_checks m i = reaction_row m i (m.reactions i) (reaction_ends_before m.reactions i)

@@ -13,44 +13,44 @@ use Rattle.schema.specs.declared.index.BindingKind.TheVariants.{StateInitializer
 use Rattle.schema.specs.declared.rows.ReactorImage.{ReactorImage}
 use Rattle.schema.specs.declared.rows.ScopeImage.{ScopeImage}
 use Rattle.checks.specs.Image.{Image}
-use Rattle.checks.specs.Refs.{refTo, spanChecks, spanEnd, endBefore}
-use Rattle.row_checks.specs.Bindings.{bindingChecks}
+use Rattle.checks.specs.Refs.{ref_to, span_checks, span_end, end_before}
+use Rattle.row_checks.specs.Bindings.{binding_checks}
 
 -- a slot check: row i of table t uses a slot below the bound
-abbrev pub slotChecks : ℕ → ℕ → ℕ → ℕ → List Check
-slotChecks t bound i slot = need (ltb slot bound) (StorageBoundExceeded t i slot bound) ∷ []
+abbrev pub slot_checks : ℕ → ℕ → ℕ → ℕ → List Check
+slot_checks t bound i slot = need (ltb slot bound) (StorageBoundExceeded t i slot bound) ∷ []
 
-abbrev pub isNoMode : MaybeMode → Bool
-isNoMode NoMode = true
-isNoMode (Mode m) = false
+abbrev pub is_no_mode : MaybeMode → Bool
+is_no_mode NoMode = true
+is_no_mode (Mode m) = false
 
 -- the root scope is the reactor's own, and no mode's
-abbrev pub rootScopeChecks : (ℕ → ℕ) → (ℕ → ScopeImage) → ℕ → ℕ → List Check
-rootScopeChecks rows scopes i v =
-    refTo rows 2 i field.root_scope 7 v
-    ∷ need (eqb (scopes v).reactor.0 i && isNoMode (scopes v).mode) (OwnershipMismatch 2 i field.root_scope)
+abbrev pub root_scope_checks : (ℕ → ℕ) → (ℕ → ScopeImage) → ℕ → ℕ → List Check
+root_scope_checks rows scopes i v =
+    ref_to rows 2 i field.root_scope 7 v
+    ∷ need (eqb (scopes v).reactor.0 i && is_no_mode (scopes v).mode) (OwnershipMismatch 2 i field.root_scope)
     ∷ []
 
 -- the initial mode is there, and one of the reactor's
-abbrev pub initialModeChecks : (ℕ → ℕ) → ℕ → IndexSpan → MaybeMode → List Check
-initialModeChecks rows i span NoMode = []
-initialModeChecks rows i span (Mode m) =
-    refTo rows 2 i field.initialMode 6 m.0
-    ∷ need (contains span.start span.len m.0) (OwnershipMismatch 2 i field.initialMode)
+abbrev pub initial_mode_checks : (ℕ → ℕ) → ℕ → IndexSpan → MaybeMode → List Check
+initial_mode_checks rows i span NoMode = []
+initial_mode_checks rows i span (Mode m) =
+    ref_to rows 2 i field.initial_mode 6 m.0
+    ∷ need (contains span.start span.len m.0) (OwnershipMismatch 2 i field.initial_mode)
     ∷ []
 
-abbrev pub bankChecks : ℕ → MaybeBank → List Check
-bankChecks i NoBank = []
-bankChecks i (Bank b) = need (ltb b.index b.total) (InvalidBankInfo i b.index b.total) ∷ []
+abbrev pub bank_checks : ℕ → MaybeBank → List Check
+bank_checks i NoBank = []
+bank_checks i (Bank b) = need (ltb b.index b.total) (InvalidBankInfo i b.index b.total) ∷ []
 
-abbrev pub reactorRow : Image → ℕ → ReactorImage → ℕ → List Check
-reactorRow m i row previous =
-    bindingChecks m.rows m.bindings 2 i field.stateBinding StateInitializer row.state_binding.0
-    ++ (slotChecks 2 m.stateSlots i row.state_slot
-    ++ (rootScopeChecks m.rows m.scopes i row.root_scope.0
-    ++ (spanChecks m.rows 2 i field.modes 6 row.modes.0.start row.modes.0.len previous
-    ++ (initialModeChecks m.rows i row.modes.0 row.initial_mode
-    ++ bankChecks i row.bank))))
+abbrev pub reactor_row : Image → ℕ → ReactorImage → ℕ → List Check
+reactor_row m i row previous =
+    binding_checks m.rows m.bindings 2 i field.state_binding StateInitializer row.state_binding.0
+    ++ (slot_checks 2 m.state_slots i row.state_slot
+    ++ (root_scope_checks m.rows m.scopes i row.root_scope.0
+    ++ (span_checks m.rows 2 i field.modes 6 row.modes.0.start row.modes.0.len previous
+    ++ (initial_mode_checks m.rows i row.modes.0 row.initial_mode
+    ++ bank_checks i row.bank))))
 
-unfoldable pub reactorChecks : Image → ℕ → List Check
-reactorChecks m i = reactorRow m i (m.reactors i) (endBefore (λ j. spanEnd (m.reactors j).modes.0) i)
+unfoldable pub reactor_checks : Image → ℕ → List Check
+reactor_checks m i = reactor_row m i (m.reactors i) (end_before (λ j. span_end (m.reactors j).modes.0) i)

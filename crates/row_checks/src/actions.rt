@@ -1,11 +1,11 @@
 // The checks of a row of actions.
 ghost use Rattle.std.specs.Prelude.{◌≡◌, ◌+◌, ◌<◌, []};
 ghost use Rattle.answers.specs.Checks.{Decides, run};
-ghost use Rattle.checks.specs.Image.{image, start_of, rows_of, bindingsAt, isStandard, actionPart, Rising, Within};
-ghost use Rattle.checks.specs.Refs.{endBefore, rangeEnd};
-ghost use Rattle.schema.specs.Rows.{Whole, enclaveAt, actionAt};
-ghost use Rattle.row_checks.specs.Reactors.{slotChecks};
-ghost use Rattle.row_checks.specs.Actions.{actionBindingChecks, actionRow, actionChecks};
+ghost use Rattle.checks.specs.Image.{image, start_of, rows_of, bindings_at, is_standard, action_part, Rising, Within};
+ghost use Rattle.checks.specs.Refs.{end_before, range_end};
+ghost use Rattle.schema.specs.Rows.{Whole, enclave_at, action_at};
+ghost use Rattle.row_checks.specs.Reactors.{slot_checks};
+ghost use Rattle.row_checks.specs.Actions.{action_binding_checks, action_row, action_checks};
 
 use answers::{Outcome, Refusal, field};
 use checks::refs;
@@ -15,7 +15,7 @@ use schema::rows::ActionImage;
 use schema::{TableStarts, parts, read};
 
 fn is_standard(timing: ActionTiming) -> bool
-    ensures { result ≡ isStandard timing }
+    ensures { result ≡ is_standard timing }
 {
     match timing {
         ActionTiming::Standard {
@@ -40,7 +40,7 @@ fn wrong_presence(i: u32) -> Outcome
 // An action's slot, against the bound of the enclave of record n.
 fn check_action_slot(p: &[u8], n: usize, i: u32, slot: u32) -> Outcome
     requires { Whole p.now }
-    ensures { Decides (slotChecks 3 (enclaveAt p.now n).storage_bounds.action_slots i slot) result }
+    ensures { Decides (slot_checks 3 (enclave_at p.now n).storage_bounds.action_slots i slot) result }
 {
     crate::reactors::check_slot(ActionImage::TABLE, parts::action_slots_at(p, n), i, slot)
 }
@@ -54,7 +54,7 @@ fn check_action_binding(
     binding: MaybeBinding,
 ) -> Outcome
     requires { Whole p.now × (Rising s.now × Within p.now s.now) }
-    ensures { Decides (actionBindingChecks (rows_of s.now) (bindingsAt p.now s.now) i (isStandard timing) binding) result }
+    ensures { Decides (action_binding_checks (rows_of s.now) (bindings_at p.now s.now) i (is_standard timing) binding) result }
 {
     let standard = is_standard(timing);
     let MaybeBinding::Binding(key) = binding else {
@@ -80,7 +80,7 @@ fn check_action_binding(
 // Where the triggers of the row before end; 0 before the first row.
 fn triggers_end_before(p: &[u8], s: &TableStarts, i: u32) -> u64
     requires { Rising s.now × (Within p.now s.now × (i < rows_of s.now 3)) }
-    ensures { result ≡ endBefore (λ j. rangeEnd (actionAt p.now (start_of s.now 3 + j)).triggers) i }
+    ensures { result ≡ end_before (λ j. range_end (action_at p.now (start_of s.now 3 + j)).triggers) i }
 {
     if i == 0 {
         return 0;
@@ -98,7 +98,7 @@ fn check_action_row(
     previous: u64,
 ) -> Outcome
     requires { Whole p.now × (Rising s.now × Within p.now s.now) }
-    ensures { Decides (actionRow (image p.now [] [] s.now n) i (actionPart row) previous) result }
+    ensures { Decides (action_row (image p.now [] [] s.now n) i (action_part row) previous) result }
 {
     let scope = crate::bindings::check_scope(s, ActionImage::TABLE, i, field::SCOPE, row.scope);
     let Outcome::Passed = scope else {
@@ -128,7 +128,7 @@ fn check_action_row(
 // Row i of the actions, in the enclave of record n.
 fn check_action(p: &[u8], s: &TableStarts, n: usize, i: u32) -> Outcome
     requires { Whole p.now × (Rising s.now × (Within p.now s.now × (i < rows_of s.now 3))) }
-    ensures { Decides (actionChecks (image p.now [] [] s.now n) i) result }
+    ensures { Decides (action_checks (image p.now [] [] s.now n) i) result }
 {
     let row = read::action_of(p, refs::row_of(s, ActionImage::TABLE, i));
     check_action_row(p, s, n, i, row, triggers_end_before(p, s, i))
@@ -137,7 +137,7 @@ fn check_action(p: &[u8], s: &TableStarts, n: usize, i: u32) -> Outcome
 // Every row of the actions, in the enclave of record n.
 pub fn check_actions(p: &[u8], s: &TableStarts, n: usize) -> Outcome
     requires { Whole p.now × (Rising s.now × Within p.now s.now) }
-    ensures { Decides (run (actionChecks (image p.now [] [] s.now n)) 0 (rows_of s.now 3)) result }
+    ensures { Decides (run (action_checks (image p.now [] [] s.now n)) 0 (rows_of s.now 3)) result }
 {
     let rows = refs::rows_of(s, ActionImage::TABLE);
     let mut i = 0;

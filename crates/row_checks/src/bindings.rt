@@ -1,9 +1,9 @@
 // A row's required binding, and references that are only looked up.
 ghost use Rattle.std.specs.Prelude.{◌≡◌, [], ◌∷◌};
 ghost use Rattle.answers.specs.Checks.{Decides};
-ghost use Rattle.checks.specs.Image.{rows_of, bindingsAt, Rising, Within};
-ghost use Rattle.checks.specs.Refs.{refTo};
-ghost use Rattle.row_checks.specs.Bindings.{kindNumber, sameKind, bindingChecks};
+ghost use Rattle.checks.specs.Image.{rows_of, bindings_at, Rising, Within};
+ghost use Rattle.checks.specs.Refs.{ref_to};
+ghost use Rattle.row_checks.specs.Bindings.{kind_number, same_kind, binding_checks};
 ghost use Rattle.schema.specs.Rows.{Whole};
 
 use answers::{Outcome, Refusal};
@@ -12,7 +12,7 @@ use schema::index::{BindingKind, BindingSlotIndex, ReactorIndex, ScopeIndex};
 use schema::{TableStarts, parts};
 
 fn kind_number(kind: BindingKind) -> u8
-    ensures { result ≡ kindNumber kind }
+    ensures { result ≡ kind_number kind }
 {
     match kind {
         BindingKind::StateInitializer => 0,
@@ -23,7 +23,7 @@ fn kind_number(kind: BindingKind) -> u8
 }
 
 pub fn same_kind(a: BindingKind, b: BindingKind) -> bool
-    ensures { result ≡ sameKind a b }
+    ensures { result ≡ same_kind a b }
 {
     kind_number(a) == kind_number(b)
 }
@@ -39,7 +39,7 @@ pub fn check_binding(
     key: BindingSlotIndex,
 ) -> Outcome
     requires { Whole p.now × (Rising s.now × Within p.now s.now) }
-    ensures { Decides (bindingChecks (rows_of s.now) (bindingsAt p.now s.now) table index field kind key.0) result }
+    ensures { Decides (binding_checks (rows_of s.now) (bindings_at p.now s.now) table index field kind key.0) result }
 {
     let found = refs::check_binding_ref(s, table, index, field, key);
     let Found::Row(n) = found else {
@@ -58,7 +58,7 @@ pub fn check_binding(
 // A scope that a row names is there.
 pub fn check_scope(s: &TableStarts, table: u8, index: u32, field: u8, key: ScopeIndex) -> Outcome
     requires { Rising s.now }
-    ensures { Decides (refTo (rows_of s.now) table index field 7 key.0 ∷ []) result }
+    ensures { Decides (ref_to (rows_of s.now) table index field 7 key.0 ∷ []) result }
 {
     let found = refs::check_scope_ref(s, table, index, field, key);
     let Found::Row(_n) = found else {
@@ -76,7 +76,7 @@ pub fn check_reactor(
     key: ReactorIndex,
 ) -> Outcome
     requires { Rising s.now }
-    ensures { Decides (refTo (rows_of s.now) table index field 2 key.0 ∷ []) result }
+    ensures { Decides (ref_to (rows_of s.now) table index field 2 key.0 ∷ []) result }
 {
     let found = refs::check_reactor_ref(s, table, index, field, key);
     let Found::Row(_n) = found else {

@@ -2,8 +2,8 @@
 ghost use Rattle.std.specs.Prelude.{◌≡◌, [], ◌/◌, ◌<◌, length};
 ghost use Rattle.answers.specs.Checks.{Decides, run};
 ghost use Rattle.checks.specs.Image.{image, rows_of, Rising, Within};
-ghost use Rattle.schema.specs.Rows.{Whole, reactorAt, scopeAt};
-ghost use Rattle.row_checks.specs.Modes.{isMode, modeOwnerChecks, modeRow, modeChecks};
+ghost use Rattle.schema.specs.Rows.{Whole, reactor_at, scope_at};
+ghost use Rattle.row_checks.specs.Modes.{is_mode, mode_owner_checks, mode_row, mode_checks};
 
 use answers::{Outcome, Refusal, field};
 use checks::{Found, refs};
@@ -12,7 +12,7 @@ use schema::rows::ModeImage;
 use schema::{TableStarts, parts, read};
 
 fn is_mode(i: u32, mode: MaybeMode) -> bool
-    ensures { result ≡ isMode i mode }
+    ensures { result ≡ is_mode i mode }
 {
     let MaybeMode::Mode(m) = mode else {
         return false;
@@ -33,7 +33,7 @@ fn wrong_owner(i: u32, field: u8) -> Outcome
 // The reactor of record r and the scope of record n, against mode i.
 fn check_mode_owner(p: &[u8], i: u32, row: ModeImage, r: usize, n: usize) -> Outcome
     requires { (r < length p.now / 64) × (n < length p.now / 64) }
-    ensures { Decides (modeOwnerChecks i row (reactorAt p.now r) (scopeAt p.now n)) result }
+    ensures { Decides (mode_owner_checks i row (reactor_at p.now r) (scope_at p.now n)) result }
 {
     let owner = parts::scope_reactor_of(p, n);
     let reactor = row.reactor;
@@ -53,7 +53,7 @@ fn check_mode_owner(p: &[u8], i: u32, row: ModeImage, r: usize, n: usize) -> Out
 
 fn check_mode_row(p: &[u8], s: &TableStarts, i: u32, row: ModeImage) -> Outcome
     requires { Whole p.now × (Rising s.now × Within p.now s.now) }
-    ensures { Decides (modeRow (image p.now [] [] s.now 0) i row) result }
+    ensures { Decides (mode_row (image p.now [] [] s.now 0) i row) result }
 {
     let reactor = refs::check_reactor_ref(s, ModeImage::TABLE, i, field::REACTOR, row.reactor);
     let Found::Row(r) = reactor else {
@@ -69,7 +69,7 @@ fn check_mode_row(p: &[u8], s: &TableStarts, i: u32, row: ModeImage) -> Outcome
 // Row i of the modes.
 fn check_mode(p: &[u8], s: &TableStarts, i: u32) -> Outcome
     requires { Whole p.now × (Rising s.now × (Within p.now s.now × (i < rows_of s.now 6))) }
-    ensures { Decides (modeChecks (image p.now [] [] s.now 0) i) result }
+    ensures { Decides (mode_checks (image p.now [] [] s.now 0) i) result }
 {
     let row = read::mode_of(p, refs::row_of(s, ModeImage::TABLE, i));
     check_mode_row(p, s, i, row)
@@ -78,7 +78,7 @@ fn check_mode(p: &[u8], s: &TableStarts, i: u32) -> Outcome
 // Every row of the modes.
 pub fn check_modes(p: &[u8], s: &TableStarts) -> Outcome
     requires { Whole p.now × (Rising s.now × Within p.now s.now) }
-    ensures { Decides (run (modeChecks (image p.now [] [] s.now 0)) 0 (rows_of s.now 6)) result }
+    ensures { Decides (run (mode_checks (image p.now [] [] s.now 0)) 0 (rows_of s.now 6)) result }
 {
     let rows = refs::rows_of(s, ModeImage::TABLE);
     let mut i = 0;

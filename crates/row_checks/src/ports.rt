@@ -2,9 +2,9 @@
 ghost use Rattle.std.specs.Prelude.{◌≡◌, ◌+◌, ◌<◌, []};
 ghost use Rattle.answers.specs.Checks.{Decides, run};
 ghost use Rattle.checks.specs.Image.{image, rows_of, start_of, Rising, Within};
-ghost use Rattle.checks.specs.Refs.{endBefore, rangeEnd};
-ghost use Rattle.schema.specs.Rows.{Whole, portAt};
-ghost use Rattle.row_checks.specs.Ports.{portRow, portChecks};
+ghost use Rattle.checks.specs.Refs.{end_before, range_end};
+ghost use Rattle.schema.specs.Rows.{Whole, port_at};
+ghost use Rattle.row_checks.specs.Ports.{port_row, port_checks};
 
 use answers::{Outcome, field};
 use checks::refs;
@@ -16,7 +16,7 @@ use schema::{TableStarts, parts, read};
 // Where the triggers of the row before end; 0 before the first row.
 fn triggers_end_before(p: &[u8], s: &TableStarts, i: u32) -> u64
     requires { Rising s.now × (Within p.now s.now × (i < rows_of s.now 4)) }
-    ensures { result ≡ endBefore (λ j. rangeEnd (portAt p.now (start_of s.now 4 + j)).triggers) i }
+    ensures { result ≡ end_before (λ j. range_end (port_at p.now (start_of s.now 4 + j)).triggers) i }
 {
     if i == 0 {
         return 0;
@@ -27,7 +27,7 @@ fn triggers_end_before(p: &[u8], s: &TableStarts, i: u32) -> u64
 
 fn check_port_row(p: &[u8], s: &TableStarts, i: u32, row: PortImage, previous: u64) -> Outcome
     requires { Whole p.now × (Rising s.now × Within p.now s.now) }
-    ensures { Decides (portRow (image p.now [] [] s.now 0) i row previous) result }
+    ensures { Decides (port_row (image p.now [] [] s.now 0) i row previous) result }
 {
     let binding = crate::bindings::check_binding(
         p,
@@ -59,7 +59,7 @@ fn check_port_row(p: &[u8], s: &TableStarts, i: u32, row: PortImage, previous: u
 // Row i of the ports.
 fn check_port(p: &[u8], s: &TableStarts, i: u32) -> Outcome
     requires { Whole p.now × (Rising s.now × (Within p.now s.now × (i < rows_of s.now 4))) }
-    ensures { Decides (portChecks (image p.now [] [] s.now 0) i) result }
+    ensures { Decides (port_checks (image p.now [] [] s.now 0) i) result }
 {
     let row = read::port_of(p, refs::row_of(s, PortImage::TABLE, i));
     check_port_row(p, s, i, row, triggers_end_before(p, s, i))
@@ -68,7 +68,7 @@ fn check_port(p: &[u8], s: &TableStarts, i: u32) -> Outcome
 // Every row of the ports.
 pub fn check_ports(p: &[u8], s: &TableStarts) -> Outcome
     requires { Whole p.now × (Rising s.now × Within p.now s.now) }
-    ensures { Decides (run (portChecks (image p.now [] [] s.now 0)) 0 (rows_of s.now 4)) result }
+    ensures { Decides (run (port_checks (image p.now [] [] s.now 0)) 0 (rows_of s.now 4)) result }
 {
     let rows = refs::rows_of(s, PortImage::TABLE);
     let mut i = 0;

@@ -2,8 +2,8 @@
 ghost use Rattle.std.specs.Prelude.{◌≡◌, [], ◌+◌, ◌<◌};
 ghost use Rattle.answers.specs.Checks.{run, Decides};
 ghost use Rattle.answers.specs.PassesIf.{PassesIf};
-ghost use Rattle.checks.specs.Image.{image, rows_of, modesAt, reactionsAt, Rising, Within};
-ghost use Rattle.row_checks.specs.Reactions.{effectChecks, reactionOwnerChecks, reactionEndsBefore, reactionRangeChecks, reactionChecks};
+ghost use Rattle.checks.specs.Image.{image, rows_of, modes_at, reactions_at, Rising, Within};
+ghost use Rattle.row_checks.specs.Reactions.{effect_checks, reaction_owner_checks, reaction_ends_before, reaction_range_checks, reaction_checks};
 ghost use Rattle.schema.specs.Rows.{Whole};
 
 use crate::bindings::same_kind;
@@ -18,7 +18,7 @@ use schema::{TableStarts, parts};
 // Reactor, scope and binding are there, and the scope is the reactor's.
 fn owner_passes(p: &[u8], s: &TableStarts, i: u32) -> bool
     requires { Rising s.now × (Within p.now s.now × (i < rows_of s.now 5)) }
-    ensures { PassesIf (reactionOwnerChecks (image p.now [] [] s.now 0) i (reactionsAt p.now s.now i)) result }
+    ensures { PassesIf (reaction_owner_checks (image p.now [] [] s.now 0) i (reactions_at p.now s.now i)) result }
 {
     let n = refs::row_of(s, ReactionImage::TABLE, i);
     let reactor = parts::reaction_reactor_of(p, n);
@@ -45,7 +45,7 @@ fn owner_passes(p: &[u8], s: &TableStarts, i: u32) -> bool
 // The target of a mode effect is there, and a mode of the reactor.
 fn effect_passes(p: &[u8], s: &TableStarts, i: u32) -> bool
     requires { Rising s.now × (Within p.now s.now × (i < rows_of s.now 5)) }
-    ensures { PassesIf (effectChecks (rows_of s.now) (modesAt p.now s.now) i (reactionsAt p.now s.now i).reactor (reactionsAt p.now s.now i).target) result }
+    ensures { PassesIf (effect_checks (rows_of s.now) (modes_at p.now s.now) i (reactions_at p.now s.now i).reactor (reactions_at p.now s.now i).target) result }
 {
     let n = refs::row_of(s, ReactionImage::TABLE, i);
     let effect = parts::reaction_mode_effect_of(p, n);
@@ -65,7 +65,7 @@ fn effect_passes(p: &[u8], s: &TableStarts, i: u32) -> bool
 // The four ranges lie in their tables, each after the one of the row before.
 fn ranges_pass(p: &[u8], s: &TableStarts, i: u32, previous: ReactionEnds) -> bool
     requires { Rising s.now × (Within p.now s.now × (i < rows_of s.now 5)) }
-    ensures { PassesIf (reactionRangeChecks (rows_of s.now) i (reactionsAt p.now s.now i) previous) result }
+    ensures { PassesIf (reaction_range_checks (rows_of s.now) i (reactions_at p.now s.now i) previous) result }
 {
     let n = refs::row_of(s, ReactionImage::TABLE, i);
     let uses = refs::range_fits(
@@ -93,8 +93,8 @@ fn ranges_pass(p: &[u8], s: &TableStarts, i: u32, previous: ReactionEnds) -> boo
 
 // Row i of the reactions, after a row whose ranges end there.
 fn reaction_passes(p: &[u8], s: &TableStarts, i: u32, previous: ReactionEnds) -> bool
-    requires { Rising s.now × (Within p.now s.now × ((i < rows_of s.now 5) × (previous ≡ reactionEndsBefore (reactionsAt p.now s.now) i))) }
-    ensures { PassesIf (reactionChecks (image p.now [] [] s.now 0) i) result }
+    requires { Rising s.now × (Within p.now s.now × ((i < rows_of s.now 5) × (previous ≡ reaction_ends_before (reactions_at p.now s.now) i))) }
+    ensures { PassesIf (reaction_checks (image p.now [] [] s.now 0) i) result }
 {
     if !owner_passes(p, s, i) {
         return false;
@@ -108,7 +108,7 @@ fn reaction_passes(p: &[u8], s: &TableStarts, i: u32, previous: ReactionEnds) ->
 // Where the ranges of row i end: those before the row after it.
 fn ends_after(p: &[u8], s: &TableStarts, i: u32) -> ReactionEnds
     requires { Rising s.now × (Within p.now s.now × (i < rows_of s.now 5)) }
-    ensures { result ≡ reactionEndsBefore (reactionsAt p.now s.now) (i + 1) }
+    ensures { result ≡ reaction_ends_before (reactions_at p.now s.now) (i + 1) }
 {
     let n = refs::row_of(s, ReactionImage::TABLE, i);
     let uses = parts::reaction_use_ports_of(p, n);
@@ -126,7 +126,7 @@ fn ends_after(p: &[u8], s: &TableStarts, i: u32) -> ReactionEnds
 // Whether every row is seen to pass. Where its ranges end is kept for the row after it.
 fn reactions_pass(p: &[u8], s: &TableStarts) -> bool
     requires { Rising s.now × Within p.now s.now }
-    ensures { PassesIf (run (reactionChecks (image p.now [] [] s.now 0)) 0 (rows_of s.now 5)) result }
+    ensures { PassesIf (run (reaction_checks (image p.now [] [] s.now 0)) 0 (rows_of s.now 5)) result }
 {
     let rows = refs::rows_of(s, ReactionImage::TABLE);
     let mut previous = no_ends();
@@ -144,7 +144,7 @@ fn reactions_pass(p: &[u8], s: &TableStarts) -> bool
 // Every row of the reactions.
 pub fn check_reactions(p: &[u8], s: &TableStarts) -> Outcome
     requires { Whole p.now × (Rising s.now × Within p.now s.now) }
-    ensures { Decides (run (reactionChecks (image p.now [] [] s.now 0)) 0 (rows_of s.now 5)) result }
+    ensures { Decides (run (reaction_checks (image p.now [] [] s.now 0)) 0 (rows_of s.now 5)) result }
 {
     if reactions_pass(p, s) {
         return Outcome::Passed;

@@ -1,9 +1,9 @@
 // The checks of a row of reactions.
 ghost use Rattle.std.specs.Prelude.{◌≡◌, [], ◌∷◌, ◌<◌, eqb};
 ghost use Rattle.answers.specs.Checks.{run, Decides, need};
-ghost use Rattle.checks.specs.Image.{image, rows_of, scopesAt, modesAt, effectTarget, reactionPart, Rising, Within};
-ghost use Rattle.checks.specs.Refs.{rangeChecks};
-ghost use Rattle.row_checks.specs.Reactions.{effectChecks, reactionOwnerChecks, reactionEndsOf, noReactionEnds, reactionRangeChecks, reactionRow, reactionChecks};
+ghost use Rattle.checks.specs.Image.{image, rows_of, scopes_at, modes_at, effect_target, reaction_part, Rising, Within};
+ghost use Rattle.checks.specs.Refs.{range_checks};
+ghost use Rattle.row_checks.specs.Reactions.{effect_checks, reaction_owner_checks, reaction_ends_of, no_reaction_ends, reaction_range_checks, reaction_row, reaction_checks};
 ghost use Rattle.schema.specs.Rows.{Whole};
 
 use answers::{Outcome, Refusal, field};
@@ -25,7 +25,7 @@ pub struct ReactionEnds {
 
 // The ends before the first row.
 pub fn no_ends() -> ReactionEnds
-    ensures { result ≡ noReactionEnds }
+    ensures { result ≡ no_reaction_ends }
 {
     ReactionEnds {
         uses: 0,
@@ -37,7 +37,7 @@ pub fn no_ends() -> ReactionEnds
 
 // Where the ranges of a row end.
 fn ends_of(row: ReactionImage) -> ReactionEnds
-    ensures { result ≡ reactionEndsOf (reactionPart row) }
+    ensures { result ≡ reaction_ends_of (reaction_part row) }
 {
     ReactionEnds {
         uses: row.use_ports.saturating_end(),
@@ -66,7 +66,7 @@ fn check_scope_reactor(
     reactor: ReactorIndex,
 ) -> Outcome
     requires { Rising s.now × (Within p.now s.now × (scope.0 < rows_of s.now 7)) }
-    ensures { Decides (need (eqb (scopesAt p.now s.now scope.0).reactor.0 reactor.0) (Refusal.OwnershipMismatch 5 i 10) ∷ []) result }
+    ensures { Decides (need (eqb (scopes_at p.now s.now scope.0).reactor.0 reactor.0) (Refusal.OwnershipMismatch 5 i 10) ∷ []) result }
 {
     let owner = parts::scope_reactor_of(p, refs::row_of(s, ScopeImage::TABLE, scope.0));
     if owner.0 == reactor.0 {
@@ -77,7 +77,7 @@ fn check_scope_reactor(
 
 fn check_reaction_owner(p: &[u8], s: &TableStarts, i: u32, row: ReactionImage) -> Outcome
     requires { Whole p.now × (Rising s.now × Within p.now s.now) }
-    ensures { Decides (reactionOwnerChecks (image p.now [] [] s.now 0) i (reactionPart row)) result }
+    ensures { Decides (reaction_owner_checks (image p.now [] [] s.now 0) i (reaction_part row)) result }
 {
     let table = ReactionImage::TABLE;
     let reactor = crate::bindings::check_reactor(s, table, i, field::REACTOR, row.reactor);
@@ -105,7 +105,7 @@ fn check_effect(
     effect: MaybeModeEffect,
 ) -> Outcome
     requires { Whole p.now × (Rising s.now × Within p.now s.now) }
-    ensures { Decides (effectChecks (rows_of s.now) (modesAt p.now s.now) i reactor.0 (effectTarget effect)) result }
+    ensures { Decides (effect_checks (rows_of s.now) (modes_at p.now s.now) i reactor.0 (effect_target effect)) result }
 {
     let MaybeModeEffect::Effect(e) = effect else {
         return Outcome::Passed;
@@ -138,7 +138,7 @@ fn check_range(
     previous: u64,
 ) -> Outcome
     requires { Rising s.now × (target < 25) }
-    ensures { Decides (rangeChecks (rows_of s.now) 5 i field target range previous) result }
+    ensures { Decides (range_checks (rows_of s.now) 5 i field target range previous) result }
 {
     refs::check_enclave_range(s, ReactionImage::TABLE, i, field, target, range, previous)
 }
@@ -150,7 +150,7 @@ fn check_reaction_ranges(
     previous: ReactionEnds,
 ) -> Outcome
     requires { Rising s.now }
-    ensures { Decides (reactionRangeChecks (rows_of s.now) i (reactionPart row) previous) result }
+    ensures { Decides (reaction_range_checks (rows_of s.now) i (reaction_part row) previous) result }
 {
     let table = ReactionUsePort::TABLE;
     let a = check_range(s, i, field::USE_PORTS, table, row.use_ports, previous.uses);
@@ -193,7 +193,7 @@ fn check_reaction_row(
     previous: ReactionEnds,
 ) -> Outcome
     requires { Whole p.now × (Rising s.now × Within p.now s.now) }
-    ensures { Decides (reactionRow (image p.now [] [] s.now 0) i (reactionPart row) previous) result }
+    ensures { Decides (reaction_row (image p.now [] [] s.now 0) i (reaction_part row) previous) result }
 {
     let owner = check_reaction_owner(p, s, i, row);
     let Outcome::Passed = owner else {
@@ -210,7 +210,7 @@ fn check_reaction_row(
 // Every row in full. Where its ranges end is kept for the row after it.
 pub fn check_each(p: &[u8], s: &TableStarts) -> Outcome
     requires { Whole p.now × (Rising s.now × Within p.now s.now) }
-    ensures { Decides (run (reactionChecks (image p.now [] [] s.now 0)) 0 (rows_of s.now 5)) result }
+    ensures { Decides (run (reaction_checks (image p.now [] [] s.now 0)) 0 (rows_of s.now 5)) result }
 {
     let rows = refs::rows_of(s, ReactionImage::TABLE);
     let mut previous = no_ends();

@@ -1,10 +1,10 @@
 // The checks of a row of reactors.
 ghost use Rattle.std.specs.Prelude.{◌≡◌, ◌+◌, ◌/◌, ◌<◌, length, [], ◌&&◌, eqb};
 ghost use Rattle.answers.specs.Checks.{Decides, run};
-ghost use Rattle.checks.specs.Image.{image, start_of, rows_of, scopesAt, Rising, Within};
-ghost use Rattle.checks.specs.Refs.{endBefore, spanEnd};
-ghost use Rattle.schema.specs.Rows.{Whole, enclaveAt, reactorAt, scopeAt};
-ghost use Rattle.row_checks.specs.Reactors.{slotChecks, isNoMode, rootScopeChecks, initialModeChecks, bankChecks, reactorRow, reactorChecks};
+ghost use Rattle.checks.specs.Image.{image, start_of, rows_of, scopes_at, Rising, Within};
+ghost use Rattle.checks.specs.Refs.{end_before, span_end};
+ghost use Rattle.schema.specs.Rows.{Whole, enclave_at, reactor_at, scope_at};
+ghost use Rattle.row_checks.specs.Reactors.{slot_checks, is_no_mode, root_scope_checks, initial_mode_checks, bank_checks, reactor_row, reactor_checks};
 
 use answers::{Outcome, Refusal, field};
 use checks::{Found, refs};
@@ -15,7 +15,7 @@ use schema::{TableStarts, parts, read};
 
 // A slot is below its bound.
 pub fn check_slot(table: u8, bound: u32, index: u32, slot: u32) -> Outcome
-    ensures { Decides (slotChecks table bound index slot) result }
+    ensures { Decides (slot_checks table bound index slot) result }
 {
     if slot < bound {
         return Outcome::Passed;
@@ -31,7 +31,7 @@ pub fn check_slot(table: u8, bound: u32, index: u32, slot: u32) -> Outcome
 // A reactor's state slot, against the bound of the enclave of record n.
 fn check_state_slot(p: &[u8], n: usize, i: u32, slot: u32) -> Outcome
     requires { Whole p.now }
-    ensures { Decides (slotChecks 2 (enclaveAt p.now n).storage_bounds.state_slots i slot) result }
+    ensures { Decides (slot_checks 2 (enclave_at p.now n).storage_bounds.state_slots i slot) result }
 {
     check_slot(ReactorImage::TABLE, parts::state_slots_at(p, n), i, slot)
 }
@@ -39,7 +39,7 @@ fn check_state_slot(p: &[u8], n: usize, i: u32, slot: u32) -> Outcome
 // Whether the scope of record n is reactor i's, and no mode's.
 fn own_root(p: &[u8], n: usize, i: u32) -> bool
     requires { n < length p.now / 64 }
-    ensures { result ≡ (eqb (scopeAt p.now n).reactor.0 i && isNoMode (scopeAt p.now n).mode) }
+    ensures { result ≡ (eqb (scope_at p.now n).reactor.0 i && is_no_mode (scope_at p.now n).mode) }
 {
     let reactor = parts::scope_reactor_of(p, n);
     if reactor.0 != i {
@@ -54,7 +54,7 @@ fn own_root(p: &[u8], n: usize, i: u32) -> bool
 
 fn check_root_scope(p: &[u8], s: &TableStarts, i: u32, key: ScopeIndex) -> Outcome
     requires { Whole p.now × (Rising s.now × Within p.now s.now) }
-    ensures { Decides (rootScopeChecks (rows_of s.now) (scopesAt p.now s.now) i key.0) result }
+    ensures { Decides (root_scope_checks (rows_of s.now) (scopes_at p.now s.now) i key.0) result }
 {
     let found = refs::check_scope_ref(s, ReactorImage::TABLE, i, field::ROOT_SCOPE, key);
     let Found::Row(n) = found else {
@@ -72,7 +72,7 @@ fn check_root_scope(p: &[u8], s: &TableStarts, i: u32, key: ScopeIndex) -> Outco
 
 fn check_initial_mode(s: &TableStarts, i: u32, span: IndexSpan, mode: MaybeMode) -> Outcome
     requires { Rising s.now }
-    ensures { Decides (initialModeChecks (rows_of s.now) i span mode) result }
+    ensures { Decides (initial_mode_checks (rows_of s.now) i span mode) result }
 {
     let MaybeMode::Mode(m) = mode else {
         return Outcome::Passed;
@@ -92,7 +92,7 @@ fn check_initial_mode(s: &TableStarts, i: u32, span: IndexSpan, mode: MaybeMode)
 }
 
 fn check_bank(i: u32, bank: MaybeBank) -> Outcome
-    ensures { Decides (bankChecks i bank) result }
+    ensures { Decides (bank_checks i bank) result }
 {
     let MaybeBank::Bank(b) = bank else {
         return Outcome::Passed;
@@ -110,7 +110,7 @@ fn check_bank(i: u32, bank: MaybeBank) -> Outcome
 // Where the modes of the row before end; 0 before the first row.
 fn modes_end_before(p: &[u8], s: &TableStarts, i: u32) -> u64
     requires { Rising s.now × (Within p.now s.now × (i < rows_of s.now 2)) }
-    ensures { result ≡ endBefore (λ j. spanEnd (reactorAt p.now (start_of s.now 2 + j)).modes.0) i }
+    ensures { result ≡ end_before (λ j. span_end (reactor_at p.now (start_of s.now 2 + j)).modes.0) i }
 {
     if i == 0 {
         return 0;
@@ -130,7 +130,7 @@ fn check_reactor_row(
     previous: u64,
 ) -> Outcome
     requires { Whole p.now × (Rising s.now × Within p.now s.now) }
-    ensures { Decides (reactorRow (image p.now [] [] s.now n) i row previous) result }
+    ensures { Decides (reactor_row (image p.now [] [] s.now n) i row previous) result }
 {
     let binding = crate::bindings::check_binding(
         p,
@@ -178,7 +178,7 @@ fn check_reactor_row(
 // Row i of the reactors, in the enclave of record n.
 fn check_reactor(p: &[u8], s: &TableStarts, n: usize, i: u32) -> Outcome
     requires { Whole p.now × (Rising s.now × (Within p.now s.now × (i < rows_of s.now 2))) }
-    ensures { Decides (reactorChecks (image p.now [] [] s.now n) i) result }
+    ensures { Decides (reactor_checks (image p.now [] [] s.now n) i) result }
 {
     let row = read::reactor_of(p, refs::row_of(s, ReactorImage::TABLE, i));
     check_reactor_row(p, s, n, i, row, modes_end_before(p, s, i))
@@ -187,7 +187,7 @@ fn check_reactor(p: &[u8], s: &TableStarts, n: usize, i: u32) -> Outcome
 // Every row of the reactors, in the enclave of record n.
 pub fn check_reactors(p: &[u8], s: &TableStarts, n: usize) -> Outcome
     requires { Whole p.now × (Rising s.now × Within p.now s.now) }
-    ensures { Decides (run (reactorChecks (image p.now [] [] s.now n)) 0 (rows_of s.now 2)) result }
+    ensures { Decides (run (reactor_checks (image p.now [] [] s.now n)) 0 (rows_of s.now 2)) result }
 {
     let rows = refs::rows_of(s, ReactorImage::TABLE);
     let mut i = 0;

@@ -90,13 +90,13 @@ layouts =
     ∷ routes ∷ bindings ∷ []
 
 -- where field k starts in its record: fields follow from byte 4 without gaps
-abbrev pub offsetFrom : ℕ → List Field → ℕ → ℕ
-offsetFrom o fs zero = o
-offsetFrom o [] (suc k) = o
-offsetFrom o (f ∷ fs) (suc k) = offsetFrom (o + bytes f) fs k
+abbrev pub offset_from : ℕ → List Field → ℕ → ℕ
+offset_from o fs zero = o
+offset_from o [] (suc k) = o
+offset_from o (f ∷ fs) (suc k) = offset_from (o + bytes f) fs k
 
 abbrev pub offset : Layout → ℕ → ℕ
-offset l k = offsetFrom 4 l.fields k
+offset l k = offset_from 4 l.fields k
 
 abbrev pub field_at : Layout → ℕ → Field
 field_at l k = get_or l.fields k W

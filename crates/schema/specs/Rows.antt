@@ -69,50 +69,50 @@ abbrev pub place : Bool → (ℕ → ℕ) → ℕ → IdentityPlace
 place house f k = record { house = house; start = f k; len = f (k + 1) }
 
 -- an optional field, by its presence bit
-abbrev pub maybeMode : Bool → ℕ → MaybeMode
-maybeMode present m = cond present (Mode (record { 0 = m })) NoMode
+abbrev pub maybe_mode : Bool → ℕ → MaybeMode
+maybe_mode present m = cond present (Mode (record { 0 = m })) NoMode
 
-abbrev pub maybeScope : Bool → ℕ → MaybeScope
-maybeScope present s = cond present (Scope (record { 0 = s })) NoScope
+abbrev pub maybe_scope : Bool → ℕ → MaybeScope
+maybe_scope present s = cond present (Scope (record { 0 = s })) NoScope
 
-abbrev pub maybeBinding : Bool → ℕ → MaybeBinding
-maybeBinding present b = cond present (Binding (record { 0 = b })) NoBinding
+abbrev pub maybe_binding : Bool → ℕ → MaybeBinding
+maybe_binding present b = cond present (Binding (record { 0 = b })) NoBinding
 
-abbrev pub maybeBank : Bool → ℕ → ℕ → MaybeBank
-maybeBank present i t = cond present (Bank (record { index = i; total = t })) NoBank
+abbrev pub maybe_bank : Bool → ℕ → ℕ → MaybeBank
+maybe_bank present i t = cond present (Bank (record { index = i; total = t })) NoBank
 
-abbrev pub maybePeriod : Bool → ℕ → MaybePeriod
-maybePeriod present d = cond present (Period d) NoPeriod
+abbrev pub maybe_period : Bool → ℕ → MaybePeriod
+maybe_period present d = cond present (Period d) NoPeriod
 
-abbrev pub transitionOf : ℕ → Transition
-transitionOf k = cond (eqb k 0) Reset History
+abbrev pub transition_of : ℕ → Transition
+transition_of k = cond (eqb k 0) Reset History
 
-abbrev pub maybeEffect : Bool → ℕ → ℕ → MaybeModeEffect
-maybeEffect present k m =
-    cond present (Effect (record { transition = transitionOf k; target = record { 0 = m } })) NoEffect
+abbrev pub maybe_effect : Bool → ℕ → ℕ → MaybeModeEffect
+maybe_effect present k m =
+    cond present (Effect (record { transition = transition_of k; target = record { 0 = m } })) NoEffect
 
 -- kinds, by byte 2
-abbrev pub timingOf : ℕ → Bool → ℕ → ActionTiming
-timingOf k present d =
+abbrev pub timing_of : ℕ → Bool → ℕ → ActionTiming
+timing_of k present d =
     cond (eqb k 0) (Standard Logical d)
     (cond (eqb k 1) (Standard Physical d)
-    (cond (eqb k 2) (Timer (maybePeriod present d)) Shutdown))
+    (cond (eqb k 2) (Timer (maybe_period present d)) Shutdown))
 
 abbrev pub kind_of : ℕ → BindingKind
 kind_of k =
     cond (eqb k 0) StateInitializer (cond (eqb k 1) Reaction (cond (eqb k 2) Port Action))
 
-abbrev pub directionOf : Bool → RouteDirection
-directionOf outbound = cond outbound Outbound Inbound
+abbrev pub direction_of : Bool → RouteDirection
+direction_of outbound = cond outbound Outbound Inbound
 
-abbrev pub domainOf : Bool → TimingDomain
-domainOf physical = cond physical Physical Logical
+abbrev pub domain_of : Bool → TimingDomain
+domain_of physical = cond physical Physical Logical
 
 -- The row of each table: f is its fields in order, b is byte 1 and k is byte 2
 
 -- table 0
-abbrev pub federateOf : (ℕ → ℕ) → ℕ → ℕ → FederateImage
-federateOf f b k =
+abbrev pub federate_of : (ℕ → ℕ) → ℕ → ℕ → FederateImage
+federate_of f b k =
     record {
       id = place (bit_of b 0) f 0;
       target = place (bit_of b 1) f 2;
@@ -121,8 +121,8 @@ federateOf f b k =
     }
 
 -- table 1
-abbrev pub enclaveOf : (ℕ → ℕ) → ℕ → ℕ → EnclaveImage
-enclaveOf f b k =
+abbrev pub enclave_of : (ℕ → ℕ) → ℕ → ℕ → EnclaveImage
+enclave_of f b k =
     record {
       enclave_id = place (bit_of b 0) f 0;
       storage_bounds =
@@ -137,31 +137,31 @@ enclaveOf f b k =
     }
 
 -- table 2
-abbrev pub reactorOf : (ℕ → ℕ) → ℕ → ℕ → ReactorImage
-reactorOf f b k =
+abbrev pub reactor_of : (ℕ → ℕ) → ℕ → ℕ → ReactorImage
+reactor_of f b k =
     record {
       state_binding = record { 0 = f 0 };
       state_slot = f 1;
       root_scope = record { 0 = f 2 };
       modes = record { 0 = span f 3 };
-      initial_mode = maybeMode (bit_of b 0) (f 5);
-      bank = maybeBank (bit_of b 1) (f 6) (f 7);
+      initial_mode = maybe_mode (bit_of b 0) (f 5);
+      bank = maybe_bank (bit_of b 1) (f 6) (f 7);
     }
 
 -- table 3
-abbrev pub actionOf : (ℕ → ℕ) → ℕ → ℕ → ActionImage
-actionOf f b k =
+abbrev pub action_of : (ℕ → ℕ) → ℕ → ℕ → ActionImage
+action_of f b k =
     record {
       scope = record { 0 = f 0 };
       storage_slot = f 1;
-      binding = maybeBinding (bit_of b 0) (f 2);
-      timing = timingOf k (bit_of b 1) (f 3);
+      binding = maybe_binding (bit_of b 0) (f 2);
+      timing = timing_of k (bit_of b 1) (f 3);
       triggers = range f 4;
     }
 
 -- table 4
-abbrev pub portOf : (ℕ → ℕ) → ℕ → ℕ → PortImage
-portOf f b k =
+abbrev pub port_of : (ℕ → ℕ) → ℕ → ℕ → PortImage
+port_of f b k =
     record {
       binding = record { 0 = f 0 };
       scope = record { 0 = f 1 };
@@ -169,8 +169,8 @@ portOf f b k =
     }
 
 -- table 5
-abbrev pub reactionOf : (ℕ → ℕ) → ℕ → ℕ → ReactionImage
-reactionOf f b k =
+abbrev pub reaction_of : (ℕ → ℕ) → ℕ → ℕ → ReactionImage
+reaction_of f b k =
     record {
       external_effect = bit_of b 0;
       reactor = record { 0 = f 0 };
@@ -181,7 +181,7 @@ reactionOf f b k =
       effect_ports = range f 6;
       actions = range f 8;
       enabled_modes = range f 10;
-      mode_effect = maybeEffect (bit_of b 1) k (f 12);
+      mode_effect = maybe_effect (bit_of b 1) k (f 12);
     }
 
 -- table 6
@@ -196,9 +196,9 @@ mode_of f b k =
 abbrev pub scope_of : (ℕ → ℕ) → ℕ → ℕ → ScopeImage
 scope_of f b k =
     record {
-      parent = maybeScope (bit_of b 0) (f 0);
+      parent = maybe_scope (bit_of b 0) (f 0);
       reactor = record { 0 = f 1 };
-      mode = maybeMode (bit_of b 1) (f 2);
+      mode = maybe_mode (bit_of b 1) (f 2);
       descendants = range f 3;
       logical_actions = range f 5;
       timer_startups = range f 7;
@@ -212,21 +212,21 @@ abbrev pub index_of : (ℕ → ℕ) → ℕ → ℕ → ℕ
 index_of f b k = f 0
 
 -- tables 8 and 16
-abbrev pub levelOf : (ℕ → ℕ) → ℕ → ℕ → LevelReactionImage
-levelOf f b k =
+abbrev pub level_of : (ℕ → ℕ) → ℕ → ℕ → LevelReactionImage
+level_of f b k =
     record { level = f 0; reaction = record { 0 = f 1 } }
 
 -- tables 15, 19 and 20
-abbrev pub startupOf : (ℕ → ℕ) → ℕ → ℕ → TimerStartupImage
-startupOf f b k =
+abbrev pub startup_of : (ℕ → ℕ) → ℕ → ℕ → TimerStartupImage
+startup_of f b k =
     record {
       action = record { 0 = f 0 };
       logical_delay_nanos = f 1;
     }
 
 -- tables 17, 18 and 21
-abbrev pub lifecycleOf : (ℕ → ℕ) → ℕ → ℕ → LifecycleReactionImage
-lifecycleOf f b k =
+abbrev pub lifecycle_of : (ℕ → ℕ) → ℕ → ℕ → LifecycleReactionImage
+lifecycle_of f b k =
     record {
       reaction =
           record {
@@ -237,19 +237,19 @@ lifecycleOf f b k =
     }
 
 -- table 23
-abbrev pub routeOf : (ℕ → ℕ) → ℕ → ℕ → RouteImage
-routeOf f b k =
+abbrev pub route_of : (ℕ → ℕ) → ℕ → ℕ → RouteImage
+route_of f b k =
     record {
       boundary = place (bit_of b 0) f 0;
       local_port = record { 0 = f 2 };
-      direction = directionOf (bit_of k 0);
-      timing_domain = domainOf (bit_of k 1);
+      direction = direction_of (bit_of k 0);
+      timing_domain = domain_of (bit_of k 1);
       delay_nanos = f 3;
     }
 
 -- table 24
-abbrev pub bindingOf : (ℕ → ℕ) → ℕ → ℕ → RequiredBindingImage
-bindingOf f b k =
+abbrev pub binding_of : (ℕ → ℕ) → ℕ → ℕ → RequiredBindingImage
+binding_of f b k =
     record {
       id = place (bit_of b 0) f 0;
       kind = kind_of k;
@@ -263,44 +263,44 @@ row of l p n = of (field p n l) (byte_of p n 1) (byte_of p n 2)
 abbrev pub empty : {A : Type 0} → ((ℕ → ℕ) → ℕ → ℕ → A) → A
 empty of = of (λ k. 0) 0 0
 
-unfoldable pub federateAt : List ℕ → ℕ → FederateImage
-federateAt p n = row federateOf layout.federate p n
+unfoldable pub federate_at : List ℕ → ℕ → FederateImage
+federate_at p n = row federate_of layout.federate p n
 
-unfoldable pub enclaveAt : List ℕ → ℕ → EnclaveImage
-enclaveAt p n = row enclaveOf layout.enclave p n
+unfoldable pub enclave_at : List ℕ → ℕ → EnclaveImage
+enclave_at p n = row enclave_of layout.enclave p n
 
-unfoldable pub reactorAt : List ℕ → ℕ → ReactorImage
-reactorAt p n = row reactorOf layout.reactors p n
+unfoldable pub reactor_at : List ℕ → ℕ → ReactorImage
+reactor_at p n = row reactor_of layout.reactors p n
 
-unfoldable pub actionAt : List ℕ → ℕ → ActionImage
-actionAt p n = row actionOf layout.actions p n
+unfoldable pub action_at : List ℕ → ℕ → ActionImage
+action_at p n = row action_of layout.actions p n
 
-unfoldable pub portAt : List ℕ → ℕ → PortImage
-portAt p n = row portOf layout.ports p n
+unfoldable pub port_at : List ℕ → ℕ → PortImage
+port_at p n = row port_of layout.ports p n
 
-unfoldable pub reactionAt : List ℕ → ℕ → ReactionImage
-reactionAt p n = row reactionOf layout.reactions p n
+unfoldable pub reaction_at : List ℕ → ℕ → ReactionImage
+reaction_at p n = row reaction_of layout.reactions p n
 
-unfoldable pub modeAt : List ℕ → ℕ → ModeImage
-modeAt p n = row mode_of layout.modes p n
+unfoldable pub mode_at : List ℕ → ℕ → ModeImage
+mode_at p n = row mode_of layout.modes p n
 
-unfoldable pub scopeAt : List ℕ → ℕ → ScopeImage
-scopeAt p n = row scope_of layout.scopes p n
+unfoldable pub scope_at : List ℕ → ℕ → ScopeImage
+scope_at p n = row scope_of layout.scopes p n
 
 unfoldable pub index_at : List ℕ → ℕ → ℕ
 index_at p n = row index_of layout.indexes p n
 
-unfoldable pub levelAt : List ℕ → ℕ → LevelReactionImage
-levelAt p n = row levelOf layout.levels p n
+unfoldable pub level_at : List ℕ → ℕ → LevelReactionImage
+level_at p n = row level_of layout.levels p n
 
-unfoldable pub startupAt : List ℕ → ℕ → TimerStartupImage
-startupAt p n = row startupOf layout.startups p n
+unfoldable pub startup_at : List ℕ → ℕ → TimerStartupImage
+startup_at p n = row startup_of layout.startups p n
 
-unfoldable pub lifecycleAt : List ℕ → ℕ → LifecycleReactionImage
-lifecycleAt p n = row lifecycleOf layout.lifecycles p n
+unfoldable pub lifecycle_at : List ℕ → ℕ → LifecycleReactionImage
+lifecycle_at p n = row lifecycle_of layout.lifecycles p n
 
-unfoldable pub routeAt : List ℕ → ℕ → RouteImage
-routeAt p n = row routeOf layout.routes p n
+unfoldable pub route_at : List ℕ → ℕ → RouteImage
+route_at p n = row route_of layout.routes p n
 
-unfoldable pub bindingAt : List ℕ → ℕ → RequiredBindingImage
-bindingAt p n = row bindingOf layout.bindings p n
+unfoldable pub binding_at : List ℕ → ℕ → RequiredBindingImage
+binding_at p n = row binding_of layout.bindings p n

@@ -1,6 +1,6 @@
 // The rows of the list tables 8 to 22: each with its table number and its empty row.
 ghost use Rattle.std.specs.Prelude.{◌≡◌};
-ghost use Rattle.schema.specs.Rows.{empty, index_of, levelOf, startupOf, lifecycleOf};
+ghost use Rattle.schema.specs.Rows.{empty, index_of, level_of, startup_of, lifecycle_of};
 
 use crate::index::{ActionIndex, ModeIndex, PortIndex, ReactionIndex, ScopeIndex};
 
@@ -27,7 +27,7 @@ pub struct LifecycleReactionImage {
 
 impl LevelReactionImage {
     pub fn empty() -> Self
-        ensures { result ≡ empty levelOf }
+        ensures { result ≡ empty level_of }
     {
         LevelReactionImage {
             level: 0,
@@ -38,7 +38,7 @@ impl LevelReactionImage {
 
 impl TimerStartupImage {
     pub fn empty() -> Self
-        ensures { result ≡ empty startupOf }
+        ensures { result ≡ empty startup_of }
     {
         TimerStartupImage {
             action: ActionIndex(0),
@@ -49,7 +49,7 @@ impl TimerStartupImage {
 
 impl LifecycleReactionImage {
     pub fn empty() -> Self
-        ensures { result ≡ empty lifecycleOf }
+        ensures { result ≡ empty lifecycle_of }
     {
         LifecycleReactionImage {
             reaction: LevelReactionImage::empty(),
@@ -122,7 +122,7 @@ impl ReactionTrigger {
     pub const TABLE: u8 = 8;
 
     pub fn empty() -> Self
-        ensures { result.0 ≡ empty levelOf }
+        ensures { result.0 ≡ empty level_of }
     {
         ReactionTrigger(LevelReactionImage::empty())
     }
@@ -192,7 +192,7 @@ impl ScopeTimerStartup {
     pub const TABLE: u8 = 15;
 
     pub fn empty() -> Self
-        ensures { result.0 ≡ empty startupOf }
+        ensures { result.0 ≡ empty startup_of }
     {
         ScopeTimerStartup(TimerStartupImage::empty())
     }
@@ -202,7 +202,7 @@ impl ScopeResetReaction {
     pub const TABLE: u8 = 16;
 
     pub fn empty() -> Self
-        ensures { result.0 ≡ empty levelOf }
+        ensures { result.0 ≡ empty level_of }
     {
         ScopeResetReaction(LevelReactionImage::empty())
     }
@@ -212,7 +212,7 @@ impl ScopeStartupReaction {
     pub const TABLE: u8 = 17;
 
     pub fn empty() -> Self
-        ensures { result.0 ≡ empty lifecycleOf }
+        ensures { result.0 ≡ empty lifecycle_of }
     {
         ScopeStartupReaction(LifecycleReactionImage::empty())
     }
@@ -222,7 +222,7 @@ impl ScopeShutdownReaction {
     pub const TABLE: u8 = 18;
 
     pub fn empty() -> Self
-        ensures { result.0 ≡ empty lifecycleOf }
+        ensures { result.0 ≡ empty lifecycle_of }
     {
         ScopeShutdownReaction(LifecycleReactionImage::empty())
     }
@@ -232,7 +232,7 @@ impl StartupAction {
     pub const TABLE: u8 = 19;
 
     pub fn empty() -> Self
-        ensures { result.0 ≡ empty startupOf }
+        ensures { result.0 ≡ empty startup_of }
     {
         StartupAction(TimerStartupImage::empty())
     }
@@ -242,7 +242,7 @@ impl TimerStartupAction {
     pub const TABLE: u8 = 20;
 
     pub fn empty() -> Self
-        ensures { result.0 ≡ empty startupOf }
+        ensures { result.0 ≡ empty startup_of }
     {
         TimerStartupAction(TimerStartupImage::empty())
     }
@@ -252,7 +252,7 @@ impl ShutdownReaction {
     pub const TABLE: u8 = 21;
 
     pub fn empty() -> Self
-        ensures { result.0 ≡ empty lifecycleOf }
+        ensures { result.0 ≡ empty lifecycle_of }
     {
         ShutdownReaction(LifecycleReactionImage::empty())
     }

@@ -1,7 +1,7 @@
 // Readers of tables 0 to 7, 23 and 24, by slice and record number. Those named `_of` ask for a record inside the pack; the others for a pack of whole records, and a record past it is the empty row.
 ghost use Rattle.std.specs.Prelude.{◌≡◌, ◌+◌, ◌*◌, ◌/◌, ◌≤◌, ◌<◌, ◌%◌, eqb, length};
 ghost use Rattle.schema.specs.Number.{number, Words};
-ghost use Rattle.schema.specs.Rows.{Whole, byte_of, maybeMode, maybeScope, maybeBinding, maybeBank, maybePeriod, maybeEffect, transitionOf, timingOf, kind_of, directionOf, domainOf, federateAt, enclaveAt, reactorAt, actionAt, portAt, reactionAt, modeAt, scopeAt, routeAt, bindingAt};
+ghost use Rattle.schema.specs.Rows.{Whole, byte_of, maybe_mode, maybe_scope, maybe_binding, maybe_bank, maybe_period, maybe_effect, transition_of, timing_of, kind_of, direction_of, domain_of, federate_at, enclave_at, reactor_at, action_at, port_at, reaction_at, mode_at, scope_at, route_at, binding_at};
 
 use crate::index::{
     ActionTiming, BankInfoImage, BindingKind, BindingSlotIndex, MaybeBank, MaybeBinding, MaybeMode,
@@ -78,7 +78,7 @@ pub fn place_of(house: bool, p: &[u8], n: usize, j: usize) -> IdentityPlace
 }
 
 pub fn maybe_mode(present: bool, m: u32) -> MaybeMode
-    ensures { result ≡ maybeMode present m }
+    ensures { result ≡ maybe_mode present m }
 {
     if present {
         return MaybeMode::Mode(ModeIndex(m));
@@ -87,7 +87,7 @@ pub fn maybe_mode(present: bool, m: u32) -> MaybeMode
 }
 
 pub fn maybe_scope(present: bool, s: u32) -> MaybeScope
-    ensures { result ≡ maybeScope present s }
+    ensures { result ≡ maybe_scope present s }
 {
     if present {
         return MaybeScope::Scope(ScopeIndex(s));
@@ -96,7 +96,7 @@ pub fn maybe_scope(present: bool, s: u32) -> MaybeScope
 }
 
 fn maybe_binding(present: bool, b: u32) -> MaybeBinding
-    ensures { result ≡ maybeBinding present b }
+    ensures { result ≡ maybe_binding present b }
 {
     if present {
         return MaybeBinding::Binding(BindingSlotIndex(b));
@@ -105,7 +105,7 @@ fn maybe_binding(present: bool, b: u32) -> MaybeBinding
 }
 
 fn maybe_bank(present: bool, index: u32, total: u32) -> MaybeBank
-    ensures { result ≡ maybeBank present index total }
+    ensures { result ≡ maybe_bank present index total }
 {
     if present {
         return MaybeBank::Bank(BankInfoImage { index, total });
@@ -114,7 +114,7 @@ fn maybe_bank(present: bool, index: u32, total: u32) -> MaybeBank
 }
 
 fn maybe_period(present: bool, nanos: u64) -> MaybePeriod
-    ensures { result ≡ maybePeriod present nanos }
+    ensures { result ≡ maybe_period present nanos }
 {
     if present {
         return MaybePeriod::Period(nanos);
@@ -123,7 +123,7 @@ fn maybe_period(present: bool, nanos: u64) -> MaybePeriod
 }
 
 fn transition_of(k: u8) -> Transition
-    ensures { result ≡ transitionOf k }
+    ensures { result ≡ transition_of k }
 {
     if k == 0 {
         return Transition::Reset;
@@ -132,7 +132,7 @@ fn transition_of(k: u8) -> Transition
 }
 
 pub fn maybe_effect(present: bool, k: u8, m: u32) -> MaybeModeEffect
-    ensures { result ≡ maybeEffect present k m }
+    ensures { result ≡ maybe_effect present k m }
 {
     if present {
         let transition = transition_of(k);
@@ -145,7 +145,7 @@ pub fn maybe_effect(present: bool, k: u8, m: u32) -> MaybeModeEffect
 }
 
 fn timing_of(k: u8, present: bool, nanos: u64) -> ActionTiming
-    ensures { result ≡ timingOf k present nanos }
+    ensures { result ≡ timing_of k present nanos }
 {
     match k {
         0 => ActionTiming::Standard {
@@ -175,7 +175,7 @@ pub fn kind_of(k: u8) -> BindingKind
 }
 
 fn direction_of(outbound: bool) -> RouteDirection
-    ensures { result ≡ directionOf outbound }
+    ensures { result ≡ direction_of outbound }
 {
     if outbound {
         return RouteDirection::Outbound;
@@ -184,7 +184,7 @@ fn direction_of(outbound: bool) -> RouteDirection
 }
 
 fn domain_of(physical: bool) -> TimingDomain
-    ensures { result ≡ domainOf physical }
+    ensures { result ≡ domain_of physical }
 {
     if physical {
         return TimingDomain::Physical;
@@ -194,7 +194,7 @@ fn domain_of(physical: bool) -> TimingDomain
 
 pub fn federate_at(p: &[u8], n: usize) -> FederateImage
     requires { Whole p.now }
-    ensures { result ≡ federateAt p.now n }
+    ensures { result ≡ federate_at p.now n }
 {
     if p.len() / 64 <= n {
         return FederateImage::empty();
@@ -213,7 +213,7 @@ pub fn federate_at(p: &[u8], n: usize) -> FederateImage
 
 pub fn enclave_at(p: &[u8], n: usize) -> EnclaveImage
     requires { Whole p.now }
-    ensures { result ≡ enclaveAt p.now n }
+    ensures { result ≡ enclave_at p.now n }
 {
     if p.len() / 64 <= n {
         return EnclaveImage::empty();
@@ -234,7 +234,7 @@ pub fn enclave_at(p: &[u8], n: usize) -> EnclaveImage
 
 pub fn reactor_of(p: &[u8], n: usize) -> ReactorImage
     requires { n < length p.now / 64 }
-    ensures { result ≡ reactorAt p.now n }
+    ensures { result ≡ reactor_at p.now n }
 {
     let bits = byte_of(p, n, 1);
     ReactorImage {
@@ -252,7 +252,7 @@ pub fn reactor_of(p: &[u8], n: usize) -> ReactorImage
 
 pub fn reactor_at(p: &[u8], n: usize) -> ReactorImage
     requires { Whole p.now }
-    ensures { result ≡ reactorAt p.now n }
+    ensures { result ≡ reactor_at p.now n }
 {
     if p.len() / 64 <= n {
         return ReactorImage::empty();
@@ -262,7 +262,7 @@ pub fn reactor_at(p: &[u8], n: usize) -> ReactorImage
 
 pub fn action_of(p: &[u8], n: usize) -> ActionImage
     requires { n < length p.now / 64 }
-    ensures { result ≡ actionAt p.now n }
+    ensures { result ≡ action_at p.now n }
 {
     let bits = byte_of(p, n, 1);
     ActionImage {
@@ -276,7 +276,7 @@ pub fn action_of(p: &[u8], n: usize) -> ActionImage
 
 pub fn action_at(p: &[u8], n: usize) -> ActionImage
     requires { Whole p.now }
-    ensures { result ≡ actionAt p.now n }
+    ensures { result ≡ action_at p.now n }
 {
     if p.len() / 64 <= n {
         return ActionImage::empty();
@@ -286,7 +286,7 @@ pub fn action_at(p: &[u8], n: usize) -> ActionImage
 
 pub fn port_of(p: &[u8], n: usize) -> PortImage
     requires { n < length p.now / 64 }
-    ensures { result ≡ portAt p.now n }
+    ensures { result ≡ port_at p.now n }
 {
     PortImage {
         binding: BindingSlotIndex(word_of(p, n, 4)),
@@ -297,7 +297,7 @@ pub fn port_of(p: &[u8], n: usize) -> PortImage
 
 pub fn port_at(p: &[u8], n: usize) -> PortImage
     requires { Whole p.now }
-    ensures { result ≡ portAt p.now n }
+    ensures { result ≡ port_at p.now n }
 {
     if p.len() / 64 <= n {
         return PortImage::empty();
@@ -307,7 +307,7 @@ pub fn port_at(p: &[u8], n: usize) -> PortImage
 
 pub fn reaction_at(p: &[u8], n: usize) -> ReactionImage
     requires { Whole p.now }
-    ensures { result ≡ reactionAt p.now n }
+    ensures { result ≡ reaction_at p.now n }
 {
     if p.len() / 64 <= n {
         return ReactionImage::empty();
@@ -329,7 +329,7 @@ pub fn reaction_at(p: &[u8], n: usize) -> ReactionImage
 
 pub fn mode_of(p: &[u8], n: usize) -> ModeImage
     requires { n < length p.now / 64 }
-    ensures { result ≡ modeAt p.now n }
+    ensures { result ≡ mode_at p.now n }
 {
     ModeImage {
         reactor: ReactorIndex(word_of(p, n, 4)),
@@ -339,7 +339,7 @@ pub fn mode_of(p: &[u8], n: usize) -> ModeImage
 
 pub fn mode_at(p: &[u8], n: usize) -> ModeImage
     requires { Whole p.now }
-    ensures { result ≡ modeAt p.now n }
+    ensures { result ≡ mode_at p.now n }
 {
     if p.len() / 64 <= n {
         return ModeImage::empty();
@@ -349,7 +349,7 @@ pub fn mode_at(p: &[u8], n: usize) -> ModeImage
 
 pub fn scope_of(p: &[u8], n: usize) -> ScopeImage
     requires { n < length p.now / 64 }
-    ensures { result ≡ scopeAt p.now n }
+    ensures { result ≡ scope_at p.now n }
 {
     let bits = byte_of(p, n, 1);
     ScopeImage {
@@ -367,7 +367,7 @@ pub fn scope_of(p: &[u8], n: usize) -> ScopeImage
 
 pub fn scope_at(p: &[u8], n: usize) -> ScopeImage
     requires { Whole p.now }
-    ensures { result ≡ scopeAt p.now n }
+    ensures { result ≡ scope_at p.now n }
 {
     if p.len() / 64 <= n {
         return ScopeImage::empty();
@@ -377,7 +377,7 @@ pub fn scope_at(p: &[u8], n: usize) -> ScopeImage
 
 pub fn route_at(p: &[u8], n: usize) -> RouteImage
     requires { Whole p.now }
-    ensures { result ≡ routeAt p.now n }
+    ensures { result ≡ route_at p.now n }
 {
     if p.len() / 64 <= n {
         return RouteImage::empty();
@@ -394,7 +394,7 @@ pub fn route_at(p: &[u8], n: usize) -> RouteImage
 
 pub fn binding_at(p: &[u8], n: usize) -> RequiredBindingImage
     requires { Whole p.now }
-    ensures { result ≡ bindingAt p.now n }
+    ensures { result ≡ binding_at p.now n }
 {
     if p.len() / 64 <= n {
         return RequiredBindingImage::empty();

@@ -1,6 +1,6 @@
 // Readers of the list tables 8 to 22, by slice and record number, of a pack of whole records. A record past the pack is the empty row.
 ghost use Rattle.std.specs.Prelude.{◌≡◌, ◌/◌, ◌%◌};
-ghost use Rattle.schema.specs.Rows.{Whole, empty, index_of, levelOf, startupOf, lifecycleOf, index_at, levelAt, startupAt, lifecycleAt};
+ghost use Rattle.schema.specs.Rows.{Whole, empty, index_of, level_of, startup_of, lifecycle_of, index_at, level_at, startup_at, lifecycle_at};
 
 use crate::index::{ActionIndex, ModeIndex, PortIndex, ReactionIndex, ScopeIndex};
 use crate::lists::{
@@ -33,8 +33,8 @@ fn level_of(pair: u64) -> LevelReactionImage
 }
 
 fn level_or(p: &[u8], n: usize, past: LevelReactionImage) -> LevelReactionImage
-    requires { Whole p.now × (past ≡ empty levelOf) }
-    ensures { result ≡ levelAt p.now n }
+    requires { Whole p.now × (past ≡ empty level_of) }
+    ensures { result ≡ level_at p.now n }
 {
     if n < p.len() / 64 {
         return level_of(words_inside(p, n * 64 + 4));
@@ -43,8 +43,8 @@ fn level_or(p: &[u8], n: usize, past: LevelReactionImage) -> LevelReactionImage
 }
 
 fn startup_or(p: &[u8], n: usize, past: TimerStartupImage) -> TimerStartupImage
-    requires { Whole p.now × (past ≡ empty startupOf) }
-    ensures { result ≡ startupAt p.now n }
+    requires { Whole p.now × (past ≡ empty startup_of) }
+    ensures { result ≡ startup_at p.now n }
 {
     if p.len() / 64 <= n {
         return past;
@@ -66,8 +66,8 @@ fn lifecycle_of(pair: u64, action: u32) -> LifecycleReactionImage
 }
 
 fn lifecycle_or(p: &[u8], n: usize, past: LifecycleReactionImage) -> LifecycleReactionImage
-    requires { Whole p.now × (past ≡ empty lifecycleOf) }
-    ensures { result ≡ lifecycleAt p.now n }
+    requires { Whole p.now × (past ≡ empty lifecycle_of) }
+    ensures { result ≡ lifecycle_at p.now n }
 {
     if n < p.len() / 64 {
         return lifecycle_of(words_inside(p, n * 64 + 4), word_inside(p, n * 64 + 12));
@@ -77,28 +77,28 @@ fn lifecycle_or(p: &[u8], n: usize, past: LifecycleReactionImage) -> LifecycleRe
 
 pub fn level_at(p: &[u8], n: usize) -> LevelReactionImage
     requires { Whole p.now }
-    ensures { result ≡ levelAt p.now n }
+    ensures { result ≡ level_at p.now n }
 {
     level_or(p, n, LevelReactionImage::empty())
 }
 
 pub fn startup_at(p: &[u8], n: usize) -> TimerStartupImage
     requires { Whole p.now }
-    ensures { result ≡ startupAt p.now n }
+    ensures { result ≡ startup_at p.now n }
 {
     startup_or(p, n, TimerStartupImage::empty())
 }
 
 pub fn lifecycle_at(p: &[u8], n: usize) -> LifecycleReactionImage
     requires { Whole p.now }
-    ensures { result ≡ lifecycleAt p.now n }
+    ensures { result ≡ lifecycle_at p.now n }
 {
     lifecycle_or(p, n, LifecycleReactionImage::empty())
 }
 
 pub fn reaction_trigger_at(p: &[u8], n: usize) -> ReactionTrigger
     requires { Whole p.now }
-    ensures { result.0 ≡ levelAt p.now n }
+    ensures { result.0 ≡ level_at p.now n }
 {
     ReactionTrigger(level_or(p, n, ReactionTrigger::empty().0))
 }
@@ -147,49 +147,49 @@ pub fn scope_logical_action_at(p: &[u8], n: usize) -> ScopeLogicalAction
 
 pub fn scope_timer_startup_at(p: &[u8], n: usize) -> ScopeTimerStartup
     requires { Whole p.now }
-    ensures { result.0 ≡ startupAt p.now n }
+    ensures { result.0 ≡ startup_at p.now n }
 {
     ScopeTimerStartup(startup_or(p, n, ScopeTimerStartup::empty().0))
 }
 
 pub fn scope_reset_reaction_at(p: &[u8], n: usize) -> ScopeResetReaction
     requires { Whole p.now }
-    ensures { result.0 ≡ levelAt p.now n }
+    ensures { result.0 ≡ level_at p.now n }
 {
     ScopeResetReaction(level_or(p, n, ScopeResetReaction::empty().0))
 }
 
 pub fn scope_startup_reaction_at(p: &[u8], n: usize) -> ScopeStartupReaction
     requires { Whole p.now }
-    ensures { result.0 ≡ lifecycleAt p.now n }
+    ensures { result.0 ≡ lifecycle_at p.now n }
 {
     ScopeStartupReaction(lifecycle_or(p, n, ScopeStartupReaction::empty().0))
 }
 
 pub fn scope_shutdown_reaction_at(p: &[u8], n: usize) -> ScopeShutdownReaction
     requires { Whole p.now }
-    ensures { result.0 ≡ lifecycleAt p.now n }
+    ensures { result.0 ≡ lifecycle_at p.now n }
 {
     ScopeShutdownReaction(lifecycle_or(p, n, ScopeShutdownReaction::empty().0))
 }
 
 pub fn startup_action_at(p: &[u8], n: usize) -> StartupAction
     requires { Whole p.now }
-    ensures { result.0 ≡ startupAt p.now n }
+    ensures { result.0 ≡ startup_at p.now n }
 {
     StartupAction(startup_or(p, n, StartupAction::empty().0))
 }
 
 pub fn timer_startup_action_at(p: &[u8], n: usize) -> TimerStartupAction
     requires { Whole p.now }
-    ensures { result.0 ≡ startupAt p.now n }
+    ensures { result.0 ≡ startup_at p.now n }
 {
     TimerStartupAction(startup_or(p, n, TimerStartupAction::empty().0))
 }
 
 pub fn shutdown_reaction_at(p: &[u8], n: usize) -> ShutdownReaction
     requires { Whole p.now }
-    ensures { result.0 ≡ lifecycleAt p.now n }
+    ensures { result.0 ≡ lifecycle_at p.now n }
 {
     ShutdownReaction(lifecycle_or(p, n, ShutdownReaction::empty().0))
 }

@@ -1,6 +1,6 @@
 // The rows of tables 0 to 7, 23 and 24: each with its table number and its empty row, the row of a record of zeros.
 ghost use Rattle.std.specs.Prelude.{◌≡◌, false};
-ghost use Rattle.schema.specs.Rows.{empty, federateOf, enclaveOf, reactorOf, actionOf, portOf, reactionOf, mode_of, scope_of, routeOf, bindingOf};
+ghost use Rattle.schema.specs.Rows.{empty, federate_of, enclave_of, reactor_of, action_of, port_of, reaction_of, mode_of, scope_of, route_of, binding_of};
 
 use crate::index::{
     ActionTiming, BindingKind, BindingSlotIndex, MaybeBank, MaybeBinding, MaybeMode,
@@ -135,7 +135,7 @@ impl FederateImage {
     pub const TABLE: u8 = 0;
 
     pub fn empty() -> Self
-        ensures { result ≡ empty federateOf }
+        ensures { result ≡ empty federate_of }
     {
         FederateImage {
             id: no_text(),
@@ -150,7 +150,7 @@ impl EnclaveImage {
     pub const TABLE: u8 = 1;
 
     pub fn empty() -> Self
-        ensures { result ≡ empty enclaveOf }
+        ensures { result ≡ empty enclave_of }
     {
         EnclaveImage {
             enclave_id: no_text(),
@@ -170,7 +170,7 @@ impl ReactorImage {
     pub const TABLE: u8 = 2;
 
     pub fn empty() -> Self
-        ensures { result ≡ empty reactorOf }
+        ensures { result ≡ empty reactor_of }
     {
         ReactorImage {
             state_binding: BindingSlotIndex(0),
@@ -187,7 +187,7 @@ impl ActionImage {
     pub const TABLE: u8 = 3;
 
     pub fn empty() -> Self
-        ensures { result ≡ empty actionOf }
+        ensures { result ≡ empty action_of }
     {
         ActionImage {
             scope: ScopeIndex(0),
@@ -206,7 +206,7 @@ impl PortImage {
     pub const TABLE: u8 = 4;
 
     pub fn empty() -> Self
-        ensures { result ≡ empty portOf }
+        ensures { result ≡ empty port_of }
     {
         PortImage {
             binding: BindingSlotIndex(0),
@@ -220,7 +220,7 @@ impl ReactionImage {
     pub const TABLE: u8 = 5;
 
     pub fn empty() -> Self
-        ensures { result ≡ empty reactionOf }
+        ensures { result ≡ empty reaction_of }
     {
         ReactionImage {
             external_effect: false,
@@ -274,7 +274,7 @@ impl RouteImage {
     pub const TABLE: u8 = 23;
 
     pub fn empty() -> Self
-        ensures { result ≡ empty routeOf }
+        ensures { result ≡ empty route_of }
     {
         RouteImage {
             boundary: no_text(),
@@ -290,7 +290,7 @@ impl RequiredBindingImage {
     pub const TABLE: u8 = 24;
 
     pub fn empty() -> Self
-        ensures { result ≡ empty bindingOf }
+        ensures { result ≡ empty binding_of }
     {
         RequiredBindingImage {
             id: no_text(),

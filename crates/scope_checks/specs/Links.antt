@@ -18,26 +18,26 @@ followed parent (suc k) NoScope = 0
 followed parent (suc k) (Scope s) = suc (followed parent k (parent s.0))
 
 -- the links of scope i among n scopes
-abbrev pub linksOf : (ℕ → MaybeScope) → ℕ → ℕ → ℕ
-linksOf parent n i = followed parent n (parent i)
+abbrev pub links_of : (ℕ → MaybeScope) → ℕ → ℕ → ℕ
+links_of parent n i = followed parent n (parent i)
 
 -- the sum over the first k of n scopes
-unfoldable pub linksBelow : (ℕ → MaybeScope) → ℕ → ℕ → ℕ
-linksBelow parent n zero = 0
-linksBelow parent n (suc k) = linksBelow parent n k + linksOf parent n k
+unfoldable pub links_below : (ℕ → MaybeScope) → ℕ → ℕ → ℕ
+links_below parent n zero = 0
+links_below parent n (suc k) = links_below parent n k + links_of parent n k
 
 abbrev pub parents : Image → ℕ → MaybeScope
 parents m i = (m.scopes i).parent
 
 -- the links of an enclave
 abbrev pub links : Image → ℕ
-links m = linksBelow (parents m) (m.rows 7) (m.rows 7)
+links m = links_below (parents m) (m.rows 7) (m.rows 7)
 
 -- as many links as there are scopes: a cycle (view.rs, the loop over ancestors)
-abbrev pub cycleChecks : Image → ℕ → List Check
-cycleChecks m i = need (ltb (linksOf (parents m) (m.rows 7) i) (m.rows 7)) (ScopeParentCycle i) ∷ []
+abbrev pub cycle_checks : Image → ℕ → List Check
+cycle_checks m i = need (ltb (links_of (parents m) (m.rows 7) i) (m.rows 7)) (ScopeParentCycle i) ∷ []
 
 -- what the walk of all parents answers: the links where the checks passed, else the refusal
-abbrev pub parentsAnswer : Outcome → ℕ → Parents
-parentsAnswer Passed n = parents-are.Links n
-parentsAnswer (Refused r) n = parents-are.Refused r
+abbrev pub parents_answer : Outcome → ℕ → Parents
+parents_answer Passed n = parents-are.Links n
+parents_answer (Refused r) n = parents-are.Refused r

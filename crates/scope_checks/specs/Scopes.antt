@@ -10,31 +10,31 @@ use Rattle.schema.specs.declared.index.MaybeScope.TheVariants.{NoScope, Scope}
 use Rattle.schema.specs.declared.rows.ModeImage.{ModeImage}
 use Rattle.schema.specs.declared.rows.ScopeImage.{ScopeImage}
 use Rattle.checks.specs.Image.{Image}
-use Rattle.checks.specs.Refs.{refTo}
+use Rattle.checks.specs.Refs.{ref_to}
 use Rattle.scope_checks.specs.declared.ends.ScopeEnds.{ScopeEnds}
-use Rattle.scope_checks.specs.Ends.{endsBefore, scopeRangeChecks}
+use Rattle.scope_checks.specs.Ends.{ends_before, scope_range_checks}
 
-abbrev pub parentChecks : (ℕ → ℕ) → ℕ → MaybeScope → List Check
-parentChecks rows i NoScope = []
-parentChecks rows i (Scope s) = refTo rows 7 i field.parent 7 s.0 ∷ []
+abbrev pub parent_checks : (ℕ → ℕ) → ℕ → MaybeScope → List Check
+parent_checks rows i NoScope = []
+parent_checks rows i (Scope s) = ref_to rows 7 i field.parent 7 s.0 ∷ []
 
 -- the scope's mode is there, and names this scope and its reactor
-abbrev pub scopeModeChecks : (ℕ → ℕ) → (ℕ → ModeImage) → ℕ → ℕ → MaybeMode → List Check
-scopeModeChecks rows modes i reactor NoMode = []
-scopeModeChecks rows modes i reactor (Mode m) =
-    refTo rows 7 i field.mode 6 m.0
+abbrev pub scope_mode_checks : (ℕ → ℕ) → (ℕ → ModeImage) → ℕ → ℕ → MaybeMode → List Check
+scope_mode_checks rows modes i reactor NoMode = []
+scope_mode_checks rows modes i reactor (Mode m) =
+    ref_to rows 7 i field.mode 6 m.0
     ∷ need (eqb (modes m.0).scope.0 i && eqb (modes m.0).reactor.0 reactor) (OwnershipMismatch 7 i field.mode)
     ∷ []
 
-abbrev pub scopeOwnerChecks : Image → ℕ → ScopeImage → List Check
-scopeOwnerChecks m i row =
-    (refTo m.rows 7 i field.reactor 2 row.reactor.0 ∷ [])
-    ++ (parentChecks m.rows i row.parent
-    ++ scopeModeChecks m.rows m.modes i row.reactor.0 row.mode)
+abbrev pub scope_owner_checks : Image → ℕ → ScopeImage → List Check
+scope_owner_checks m i row =
+    (ref_to m.rows 7 i field.reactor 2 row.reactor.0 ∷ [])
+    ++ (parent_checks m.rows i row.parent
+    ++ scope_mode_checks m.rows m.modes i row.reactor.0 row.mode)
 
 -- row i against the running ends
-unfoldable pub scopeRowChecks : Image → ℕ → ScopeImage → ScopeEnds → List Check
-scopeRowChecks m i row ends = scopeOwnerChecks m i row ++ scopeRangeChecks m.rows i row ends
+unfoldable pub scope_row_checks : Image → ℕ → ScopeImage → ScopeEnds → List Check
+scope_row_checks m i row ends = scope_owner_checks m i row ++ scope_range_checks m.rows i row ends
 
-unfoldable pub scopeChecks : Image → ℕ → List Check
-scopeChecks m i = scopeRowChecks m i (m.scopes i) (endsBefore m.scopes i)
+unfoldable pub scope_checks : Image → ℕ → List Check
+scope_checks m i = scope_row_checks m i (m.scopes i) (ends_before m.scopes i)

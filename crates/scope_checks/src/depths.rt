@@ -2,8 +2,8 @@
 // whose depth is known. A depth is a scope's links + 1, or 0 where they are not known yet.
 ghost use Rattle.std.specs.Prelude.{◌≡◌, [], ◌+◌, ◌<◌, ◌≤◌, get_or};
 ghost use Rattle.checks.specs.Image.{image, rows_of, Rising, Within};
-ghost use Rattle.scope_checks.specs.Links.{linksOf, parents};
-ghost use Rattle.scope_checks.specs.Depths.{allParents, least, Known, Settling};
+ghost use Rattle.scope_checks.specs.Links.{links_of, parents};
+ghost use Rattle.scope_checks.specs.Depths.{all_parents, least, Known, Settling};
 ghost use Rattle.schema.specs.Rows.{Whole};
 
 use crate::links::{Parents, parent_of};
@@ -44,7 +44,7 @@ fn joined(n: u32, followed: u32, known: u32) -> u32
 // The links of scope i, as `links_of` gives them.
 fn links_by(p: &[u8], s: &TableStarts, depths: &[u32], i: u32) -> u32
     requires { Whole p.now × (Rising s.now × (Within p.now s.now × Known (image p.now [] [] s.now 0) depths.now)) }
-    ensures { result ≡ linksOf (parents (image p.now [] [] s.now 0)) (rows_of s.now 7) i }
+    ensures { result ≡ links_of (parents (image p.now [] [] s.now 0)) (rows_of s.now 7) i }
 {
     let n = refs::rows_of(s, ScopeImage::TABLE);
     let mut at = i;
@@ -89,7 +89,7 @@ fn settle(p: &[u8], s: &TableStarts, depths: &mut [u32], i: u32, depth: u32)
 // The parents of every scope, with room for their depths.
 fn check_parents_by(p: &[u8], s: &TableStarts, depths: &mut [u32]) -> Parents
     requires { Whole p.now × (Rising s.now × (Within p.now s.now × Known (image p.now [] [] s.now 0) depths.old)) }
-    ensures { result ≡ allParents (image p.now [] [] s.now 0) }
+    ensures { result ≡ all_parents (image p.now [] [] s.now 0) }
 {
     let n = refs::rows_of(s, ScopeImage::TABLE);
     let mut links: u64 = 0;
@@ -110,7 +110,7 @@ fn check_parents_by(p: &[u8], s: &TableStarts, depths: &mut [u32]) -> Parents
 // It calls itself, so the compiler keeps its 256 KiB out of the callers' frames: smaller images do not pay for them.
 fn check_parents_in(p: &[u8], s: &TableStarts, depths: &mut [u32]) -> Parents
     requires { Whole p.now × (Rising s.now × (Within p.now s.now × Known (image p.now [] [] s.now 0) depths.old)) }
-    ensures { result ≡ allParents (image p.now [] [] s.now 0) }
+    ensures { result ≡ all_parents (image p.now [] [] s.now 0) }
 {
     let n = refs::rows_of(s, ScopeImage::TABLE) as usize;
     if depths.len() < LARGE {
@@ -124,7 +124,7 @@ fn check_parents_in(p: &[u8], s: &TableStarts, depths: &mut [u32]) -> Parents
 // The same where the most is not needed. It calls itself too, which keeps its 16 KiB out of the frames of images with few scopes.
 fn check_parents_some(p: &[u8], s: &TableStarts, depths: &mut [u32]) -> Parents
     requires { Whole p.now × (Rising s.now × (Within p.now s.now × Known (image p.now [] [] s.now 0) depths.old)) }
-    ensures { result ≡ allParents (image p.now [] [] s.now 0) }
+    ensures { result ≡ all_parents (image p.now [] [] s.now 0) }
 {
     if depths.len() < MEDIUM {
         return check_parents_some(p, s, &mut [0u32; MEDIUM]);
@@ -135,7 +135,7 @@ fn check_parents_some(p: &[u8], s: &TableStarts, depths: &mut [u32]) -> Parents
 // The parents of every scope, each scope's links found once.
 pub fn check_parents_once(p: &[u8], s: &TableStarts) -> Parents
     requires { Whole p.now × (Rising s.now × Within p.now s.now) }
-    ensures { result ≡ allParents (image p.now [] [] s.now 0) }
+    ensures { result ≡ all_parents (image p.now [] [] s.now 0) }
 {
     let n = refs::rows_of(s, ScopeImage::TABLE) as usize;
     let mut none = [0u32; 0];

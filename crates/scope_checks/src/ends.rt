@@ -1,10 +1,10 @@
 // The six running ends of the rows of scopes: kept together, and moved on where they stand, over a by-value core.
 ghost use Rattle.std.specs.Prelude.{◌≡◌, [], ◌<◌};
 ghost use Rattle.answers.specs.Checks.{Decides};
-ghost use Rattle.checks.specs.Image.{image, rows_of, scopesAt, Rising, Within};
-ghost use Rattle.checks.specs.Refs.{rangeChecks};
-ghost use Rattle.scope_checks.specs.Ends.{endsOf, noEnds, memberRangeChecks, reactionRangeChecks, scopeRangeChecks, Moves};
-ghost use Rattle.scope_checks.specs.Scopes.{scopeRowChecks};
+ghost use Rattle.checks.specs.Image.{image, rows_of, scopes_at, Rising, Within};
+ghost use Rattle.checks.specs.Refs.{range_checks};
+ghost use Rattle.scope_checks.specs.Ends.{ends_of, no_ends, member_range_checks, reaction_range_checks, scope_range_checks, Moves};
+ghost use Rattle.scope_checks.specs.Scopes.{scope_row_checks};
 ghost use Rattle.schema.specs.Rows.{Whole};
 
 use answers::{Outcome, field};
@@ -37,7 +37,7 @@ pub struct EndsAnswer {
 
 // The ends before the first row.
 pub fn no_ends() -> ScopeEnds
-    ensures { result ≡ noEnds }
+    ensures { result ≡ no_ends }
 {
     ScopeEnds {
         descendants: 0,
@@ -51,7 +51,7 @@ pub fn no_ends() -> ScopeEnds
 
 // Where the ranges of a row end.
 fn ends_of(row: ScopeImage) -> ScopeEnds
-    ensures { result ≡ endsOf row }
+    ensures { result ≡ ends_of row }
 {
     ScopeEnds {
         descendants: row.descendants.saturating_end(),
@@ -73,7 +73,7 @@ fn check_range(
     end: u64,
 ) -> Outcome
     requires { Rising s.now × (target < 25) }
-    ensures { Decides (rangeChecks (rows_of s.now) 7 i field target range end) result }
+    ensures { Decides (range_checks (rows_of s.now) 7 i field target range end) result }
 {
     refs::check_enclave_range(s, ScopeImage::TABLE, i, field, target, range, end)
 }
@@ -81,7 +81,7 @@ fn check_range(
 // The ranges of scopes and actions of row i.
 fn check_member_ranges(s: &TableStarts, i: u32, row: ScopeImage, ends: ScopeEnds) -> Outcome
     requires { Rising s.now }
-    ensures { Decides (memberRangeChecks (rows_of s.now) i row ends) result }
+    ensures { Decides (member_range_checks (rows_of s.now) i row ends) result }
 {
     let target = ScopeDescendant::TABLE;
     let range = row.descendants;
@@ -106,7 +106,7 @@ fn check_member_ranges(s: &TableStarts, i: u32, row: ScopeImage, ends: ScopeEnds
 // The ranges of reactions of row i.
 fn check_reaction_ranges(s: &TableStarts, i: u32, row: ScopeImage, ends: ScopeEnds) -> Outcome
     requires { Rising s.now }
-    ensures { Decides (reactionRangeChecks (rows_of s.now) i row ends) result }
+    ensures { Decides (reaction_range_checks (rows_of s.now) i row ends) result }
 {
     let target = ScopeResetReaction::TABLE;
     let range = row.reset_reactions;
@@ -131,7 +131,7 @@ fn check_reaction_ranges(s: &TableStarts, i: u32, row: ScopeImage, ends: ScopeEn
 // The six ranges of row i against the running ends.
 fn check_scope_ranges(s: &TableStarts, i: u32, row: ScopeImage, ends: ScopeEnds) -> Outcome
     requires { Rising s.now }
-    ensures { Decides (scopeRangeChecks (rows_of s.now) i row ends) result }
+    ensures { Decides (scope_range_checks (rows_of s.now) i row ends) result }
 {
     let a = check_member_ranges(s, i, row, ends);
     let Outcome::Passed = a else {
@@ -143,7 +143,7 @@ fn check_scope_ranges(s: &TableStarts, i: u32, row: ScopeImage, ends: ScopeEnds)
 // The ends by value: moved on to the row's where its ranges pass.
 pub fn moved_ends(s: &TableStarts, i: u32, row: ScopeImage, ends: ScopeEnds) -> EndsAnswer
     requires { Rising s.now }
-    ensures { Moves (scopeRangeChecks (rows_of s.now) i row ends) row ends result.ends result.answer }
+    ensures { Moves (scope_range_checks (rows_of s.now) i row ends) row ends result.ends result.answer }
 {
     let moved = ends_of(row);
     let answer = check_scope_ranges(s, i, row, ends);
@@ -159,7 +159,7 @@ pub fn moved_ends(s: &TableStarts, i: u32, row: ScopeImage, ends: ScopeEnds) -> 
 // The whole row by value: its references, then its ranges.
 pub fn moved_row(p: &[u8], s: &TableStarts, i: u32, row: ScopeImage, ends: ScopeEnds) -> EndsAnswer
     requires { Whole p.now × (Rising s.now × Within p.now s.now) }
-    ensures { Moves (scopeRowChecks (image p.now [] [] s.now 0) i row ends) row ends result.ends result.answer }
+    ensures { Moves (scope_row_checks (image p.now [] [] s.now 0) i row ends) row ends result.ends result.answer }
 {
     let owner = crate::owners::check_scope_owner(p, s, i, row);
     let Outcome::Passed = owner else {
@@ -180,7 +180,7 @@ pub fn check_scope_row(
     ends: &mut ScopeEnds,
 ) -> Outcome
     requires { Whole p.now × (Rising s.now × Within p.now s.now) }
-    ensures { Moves (scopeRowChecks (image p.now [] [] s.now 0) i row ends.old) row ends.old ends.new result }
+    ensures { Moves (scope_row_checks (image p.now [] [] s.now 0) i row ends.old) row ends.old ends.new result }
 {
     let a = moved_row(p, s, i, row, *ends);
     *ends = a.ends;
@@ -190,7 +190,7 @@ pub fn check_scope_row(
 // The same with plain parameters: it lends the ends to `check_scope_row`.
 fn row_by(p: &[u8], s: &TableStarts, i: u32, row: ScopeImage, ends: ScopeEnds) -> EndsAnswer
     requires { Whole p.now × (Rising s.now × Within p.now s.now) }
-    ensures { Moves (scopeRowChecks (image p.now [] [] s.now 0) i row ends) row ends result.ends result.answer }
+    ensures { Moves (scope_row_checks (image p.now [] [] s.now 0) i row ends) row ends result.ends result.answer }
 {
     let mut e = ends;
     let answer = check_scope_row(p, s, i, row, &mut e);
@@ -200,7 +200,7 @@ fn row_by(p: &[u8], s: &TableStarts, i: u32, row: ScopeImage, ends: ScopeEnds) -
 // Row i of the pack.
 pub fn scope_row_by(p: &[u8], s: &TableStarts, i: u32, ends: ScopeEnds) -> EndsAnswer
     requires { Whole p.now × (Rising s.now × (Within p.now s.now × (i < rows_of s.now 7))) }
-    ensures { Moves (scopeRowChecks (image p.now [] [] s.now 0) i (scopesAt p.now s.now i) ends) (scopesAt p.now s.now i) ends result.ends result.answer }
+    ensures { Moves (scope_row_checks (image p.now [] [] s.now 0) i (scopes_at p.now s.now i) ends) (scopes_at p.now s.now i) ends result.ends result.answer }
 {
     let row = read::scope_of(p, refs::row_of(s, ScopeImage::TABLE, i));
     row_by(p, s, i, row, ends)

@@ -2,8 +2,8 @@
 ghost use Rattle.std.specs.Prelude.{◌≡◌, []};
 ghost use Rattle.answers.specs.Checks.{first, run};
 ghost use Rattle.checks.specs.Image.{image, rows_of, Rising, Within};
-ghost use Rattle.scope_checks.specs.Depths.{allParents};
-ghost use Rattle.scope_checks.specs.Links.{linksOf, parents, links, cycleChecks, parentsAnswer};
+ghost use Rattle.scope_checks.specs.Depths.{all_parents};
+ghost use Rattle.scope_checks.specs.Links.{links_of, parents, links, cycle_checks, parents_answer};
 ghost use Rattle.schema.specs.Rows.{Whole};
 
 use crate::depths;
@@ -33,7 +33,7 @@ pub fn parent_of(p: &[u8], s: &TableStarts, i: u32) -> MaybeScope
 // The links of scope i: parents followed until none, or until as many as there are scopes.
 pub fn links_of(p: &[u8], s: &TableStarts, i: u32) -> u32
     requires { Whole p.now × (Rising s.now × Within p.now s.now) }
-    ensures { result ≡ linksOf (parents (image p.now [] [] s.now 0)) (rows_of s.now 7) i }
+    ensures { result ≡ links_of (parents (image p.now [] [] s.now 0)) (rows_of s.now 7) i }
 {
     let n = refs::rows_of(s, ScopeImage::TABLE);
     let mut at = i;
@@ -52,7 +52,7 @@ pub fn links_of(p: &[u8], s: &TableStarts, i: u32) -> u32
 // The parents of every scope, each followed to the end.
 fn check_parents_plain(p: &[u8], s: &TableStarts) -> Parents
     requires { Whole p.now × (Rising s.now × Within p.now s.now) }
-    ensures { result ≡ allParents (image p.now [] [] s.now 0) }
+    ensures { result ≡ all_parents (image p.now [] [] s.now 0) }
 {
     let n = refs::rows_of(s, ScopeImage::TABLE);
     let mut links: u64 = 0;
@@ -71,7 +71,7 @@ fn check_parents_plain(p: &[u8], s: &TableStarts) -> Parents
 // The parents of every scope.
 pub fn check_parents(p: &[u8], s: &TableStarts) -> Parents
     requires { Whole p.now × (Rising s.now × Within p.now s.now) }
-    ensures { result ≡ parentsAnswer (first (run (cycleChecks (image p.now [] [] s.now 0)) 0 (rows_of s.now 7))) (links (image p.now [] [] s.now 0)) }
+    ensures { result ≡ parents_answer (first (run (cycle_checks (image p.now [] [] s.now 0)) 0 (rows_of s.now 7))) (links (image p.now [] [] s.now 0)) }
 {
     let n = refs::rows_of(s, ScopeImage::TABLE);
     if n < FEW {

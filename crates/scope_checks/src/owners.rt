@@ -1,8 +1,8 @@
 // The references of a row of scopes: its reactor, its parent, and its mode, which names the scope and its reactor.
 ghost use Rattle.std.specs.Prelude.{◌≡◌, ◌&&◌, [], eqb};
 ghost use Rattle.answers.specs.Checks.{Decides};
-ghost use Rattle.checks.specs.Image.{image, rows_of, modesAt, Rising, Within};
-ghost use Rattle.scope_checks.specs.Scopes.{parentChecks, scopeModeChecks, scopeOwnerChecks};
+ghost use Rattle.checks.specs.Image.{image, rows_of, modes_at, Rising, Within};
+ghost use Rattle.scope_checks.specs.Scopes.{parent_checks, scope_mode_checks, scope_owner_checks};
 ghost use Rattle.schema.specs.Rows.{Whole};
 
 use answers::{Outcome, Refusal, field};
@@ -14,7 +14,7 @@ use schema::{TableStarts, read};
 // The parent, where there is one, is there.
 pub fn check_parent(s: &TableStarts, i: u32, parent: MaybeScope) -> Outcome
     requires { Rising s.now }
-    ensures { Decides (parentChecks (rows_of s.now) i parent) result }
+    ensures { Decides (parent_checks (rows_of s.now) i parent) result }
 {
     let MaybeScope::Scope(scope) = parent else {
         return Outcome::Passed;
@@ -47,7 +47,7 @@ pub fn check_scope_mode(
     mode: MaybeMode,
 ) -> Outcome
     requires { Whole p.now × (Rising s.now × Within p.now s.now) }
-    ensures { Decides (scopeModeChecks (rows_of s.now) (modesAt p.now s.now) i reactor.0 mode) result }
+    ensures { Decides (scope_mode_checks (rows_of s.now) (modes_at p.now s.now) i reactor.0 mode) result }
 {
     let MaybeMode::Mode(key) = mode else {
         return Outcome::Passed;
@@ -69,7 +69,7 @@ pub fn check_scope_mode(
 // The references of row i, in order: reactor, parent, mode.
 pub fn check_scope_owner(p: &[u8], s: &TableStarts, i: u32, row: ScopeImage) -> Outcome
     requires { Whole p.now × (Rising s.now × Within p.now s.now) }
-    ensures { Decides (scopeOwnerChecks (image p.now [] [] s.now 0) i row) result }
+    ensures { Decides (scope_owner_checks (image p.now [] [] s.now 0) i row) result }
 {
     let reactor = row.reactor;
     let found = refs::check_reactor_ref(s, ScopeImage::TABLE, i, field::REACTOR, reactor);

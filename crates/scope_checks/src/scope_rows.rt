@@ -2,10 +2,10 @@
 ghost use Rattle.std.specs.Prelude.{◌≡◌, [], ◌+◌, ◌<◌};
 ghost use Rattle.answers.specs.Checks.{run, Decides};
 ghost use Rattle.answers.specs.PassesIf.{PassesIf};
-ghost use Rattle.checks.specs.Image.{image, rows_of, modesAt, scopesAt, Rising, Within};
+ghost use Rattle.checks.specs.Image.{image, rows_of, modes_at, scopes_at, Rising, Within};
 ghost use Rattle.schema.specs.Rows.{Whole};
-ghost use Rattle.scope_checks.specs.Ends.{endsBefore, memberRangeChecks, reactionRangeChecks};
-ghost use Rattle.scope_checks.specs.Scopes.{parentChecks, scopeModeChecks, scopeOwnerChecks, scopeChecks};
+ghost use Rattle.scope_checks.specs.Ends.{ends_before, member_range_checks, reaction_range_checks};
+ghost use Rattle.scope_checks.specs.Scopes.{parent_checks, scope_mode_checks, scope_owner_checks, scope_checks};
 
 use crate::ends::{ScopeEnds, no_ends};
 use crate::scopes::check_each;
@@ -22,7 +22,7 @@ use schema::{TableStarts, parts};
 // The parent, where there is one, is there.
 fn parent_passes(p: &[u8], s: &TableStarts, i: u32) -> bool
     requires { Rising s.now × (Within p.now s.now × (i < rows_of s.now 7)) }
-    ensures { PassesIf (parentChecks (rows_of s.now) i (scopesAt p.now s.now i).parent) result }
+    ensures { PassesIf (parent_checks (rows_of s.now) i (scopes_at p.now s.now i).parent) result }
 {
     let n = refs::row_of(s, ScopeImage::TABLE, i);
     let parent = parts::scope_parent_of(p, n);
@@ -35,7 +35,7 @@ fn parent_passes(p: &[u8], s: &TableStarts, i: u32) -> bool
 // The mode, where there is one, is there, and names scope i and its reactor.
 fn mode_passes(p: &[u8], s: &TableStarts, i: u32) -> bool
     requires { Rising s.now × (Within p.now s.now × (i < rows_of s.now 7)) }
-    ensures { PassesIf (scopeModeChecks (rows_of s.now) (modesAt p.now s.now) i (scopesAt p.now s.now i).reactor.0 (scopesAt p.now s.now i).mode) result }
+    ensures { PassesIf (scope_mode_checks (rows_of s.now) (modes_at p.now s.now) i (scopes_at p.now s.now i).reactor.0 (scopes_at p.now s.now i).mode) result }
 {
     let n = refs::row_of(s, ScopeImage::TABLE, i);
     let mode = parts::scope_mode_of(p, n);
@@ -55,7 +55,7 @@ fn mode_passes(p: &[u8], s: &TableStarts, i: u32) -> bool
 // Reactor, parent and mode.
 fn owner_passes(p: &[u8], s: &TableStarts, i: u32) -> bool
     requires { Rising s.now × (Within p.now s.now × (i < rows_of s.now 7)) }
-    ensures { PassesIf (scopeOwnerChecks (image p.now [] [] s.now 0) i (scopesAt p.now s.now i)) result }
+    ensures { PassesIf (scope_owner_checks (image p.now [] [] s.now 0) i (scopes_at p.now s.now i)) result }
 {
     let n = refs::row_of(s, ScopeImage::TABLE, i);
     let reactor = parts::scope_reactor_of(p, n);
@@ -71,7 +71,7 @@ fn owner_passes(p: &[u8], s: &TableStarts, i: u32) -> bool
 // The ranges of scopes and actions lie in their tables, each after its running end.
 fn members_pass(p: &[u8], s: &TableStarts, i: u32, ends: ScopeEnds) -> bool
     requires { Rising s.now × (Within p.now s.now × (i < rows_of s.now 7)) }
-    ensures { PassesIf (memberRangeChecks (rows_of s.now) i (scopesAt p.now s.now i) ends) result }
+    ensures { PassesIf (member_range_checks (rows_of s.now) i (scopes_at p.now s.now i) ends) result }
 {
     let n = refs::row_of(s, ScopeImage::TABLE, i);
     let descendants = refs::range_fits(
@@ -95,7 +95,7 @@ fn members_pass(p: &[u8], s: &TableStarts, i: u32, ends: ScopeEnds) -> bool
 // The ranges of reactions, likewise.
 fn reactions_pass(p: &[u8], s: &TableStarts, i: u32, ends: ScopeEnds) -> bool
     requires { Rising s.now × (Within p.now s.now × (i < rows_of s.now 7)) }
-    ensures { PassesIf (reactionRangeChecks (rows_of s.now) i (scopesAt p.now s.now i) ends) result }
+    ensures { PassesIf (reaction_range_checks (rows_of s.now) i (scopes_at p.now s.now i) ends) result }
 {
     let n = refs::row_of(s, ScopeImage::TABLE, i);
     let reset = refs::range_fits(
@@ -118,8 +118,8 @@ fn reactions_pass(p: &[u8], s: &TableStarts, i: u32, ends: ScopeEnds) -> bool
 
 // Row i, after a row whose ranges end there.
 fn scope_passes(p: &[u8], s: &TableStarts, i: u32, ends: ScopeEnds) -> bool
-    requires { Rising s.now × (Within p.now s.now × ((i < rows_of s.now 7) × (ends ≡ endsBefore (scopesAt p.now s.now) i))) }
-    ensures { PassesIf (scopeChecks (image p.now [] [] s.now 0) i) result }
+    requires { Rising s.now × (Within p.now s.now × ((i < rows_of s.now 7) × (ends ≡ ends_before (scopes_at p.now s.now) i))) }
+    ensures { PassesIf (scope_checks (image p.now [] [] s.now 0) i) result }
 {
     if !owner_passes(p, s, i) {
         return false;
@@ -133,7 +133,7 @@ fn scope_passes(p: &[u8], s: &TableStarts, i: u32, ends: ScopeEnds) -> bool
 // Where the ranges of row i end: those before the row after it.
 fn ends_after(p: &[u8], s: &TableStarts, i: u32) -> ScopeEnds
     requires { Rising s.now × (Within p.now s.now × (i < rows_of s.now 7)) }
-    ensures { result ≡ endsBefore (scopesAt p.now s.now) (i + 1) }
+    ensures { result ≡ ends_before (scopes_at p.now s.now) (i + 1) }
 {
     let n = refs::row_of(s, ScopeImage::TABLE, i);
     let descendants = parts::scope_descendants_of(p, n);
@@ -155,7 +155,7 @@ fn ends_after(p: &[u8], s: &TableStarts, i: u32) -> ScopeEnds
 // Whether every row is seen to pass.
 fn scopes_pass(p: &[u8], s: &TableStarts) -> bool
     requires { Rising s.now × Within p.now s.now }
-    ensures { PassesIf (run (scopeChecks (image p.now [] [] s.now 0)) 0 (rows_of s.now 7)) result }
+    ensures { PassesIf (run (scope_checks (image p.now [] [] s.now 0)) 0 (rows_of s.now 7)) result }
 {
     let rows = refs::rows_of(s, ScopeImage::TABLE);
     let mut ends = no_ends();
@@ -173,7 +173,7 @@ fn scopes_pass(p: &[u8], s: &TableStarts) -> bool
 // Every row of scopes.
 pub fn check_scopes(p: &[u8], s: &TableStarts) -> Outcome
     requires { Whole p.now × (Rising s.now × Within p.now s.now) }
-    ensures { Decides (run (scopeChecks (image p.now [] [] s.now 0)) 0 (rows_of s.now 7)) result }
+    ensures { Decides (run (scope_checks (image p.now [] [] s.now 0)) 0 (rows_of s.now 7)) result }
 {
     if scopes_pass(p, s) {
         return Outcome::Passed;

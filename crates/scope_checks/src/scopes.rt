@@ -2,7 +2,7 @@
 ghost use Rattle.std.specs.Prelude.{[]};
 ghost use Rattle.answers.specs.Checks.{run, Decides};
 ghost use Rattle.checks.specs.Image.{image, rows_of, Rising, Within};
-ghost use Rattle.scope_checks.specs.Scopes.{scopeChecks};
+ghost use Rattle.scope_checks.specs.Scopes.{scope_checks};
 ghost use Rattle.schema.specs.Rows.{Whole};
 
 use answers::Outcome;
@@ -13,7 +13,7 @@ use schema::rows::ScopeImage;
 // Every row in full, with the running ends.
 pub fn check_each(p: &[u8], s: &TableStarts) -> Outcome
     requires { Whole p.now × (Rising s.now × Within p.now s.now) }
-    ensures { Decides (run (scopeChecks (image p.now [] [] s.now 0)) 0 (rows_of s.now 7)) result }
+    ensures { Decides (run (scope_checks (image p.now [] [] s.now 0)) 0 (rows_of s.now 7)) result }
 {
     let n = refs::rows_of(s, ScopeImage::TABLE);
     let mut ends = crate::ends::no_ends();

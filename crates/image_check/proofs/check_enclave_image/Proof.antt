@@ -1,6 +1,6 @@
 -- `image_check::check_enclave_image` meets its contract. Assumes nothing.
 use native.Mathlib.Omega.{arith}
-use Rattle.enclave.specs.Answer.{answerNumbers}
+use Rattle.enclave.specs.Answer.{answer_numbers}
 use borrow.Author.Rules.{rules}
 use Rattle.image_check.proofs.Filled.{answer-few}
 use Rattle.image_check.proofs.check_enclave_image.Statement.{statement}
@@ -9,7 +9,7 @@ use Rattle.image_check.proofs.check_enclave_image.Tie as tie
 cast-result : tie.Need-overflow-cast-result
 cast-result c =
     let n = c.before.before.enclave-numbers in
-    omega (arith, answer-few (answerNumbers c.before.before.before.check-enclave.result) _ _ n.ensures (search rules))
+    omega (arith, answer-few (answer_numbers c.before.before.before.check-enclave.result) _ _ n.ensures (search rules))
 
 returns : tie.Need-returns
 returns c = rw (← c.before.before.before.check-enclave.ensures) c.before.before.enclave-numbers.ensures

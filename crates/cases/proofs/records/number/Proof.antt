@@ -3,14 +3,14 @@ use Prim.Native.Nat.{◌≤◌}
 use mathlib.Core.Path.{◌≡◌, refl, sym, ◌∙◌}
 use native.Mathlib.Omega.{arith}
 use borrow.Author.Rules.{rules}
-use Rattle.cases.specs.Records.{putNumber}
+use Rattle.cases.specs.Records.{put_number}
 use Rattle.cases.proofs.Put.{put_step, put-none}
 use Rattle.cases.proofs.records.number.Statement.{statement}
 use Rattle.cases.proofs.records.number.Tie as tie
 
 abbrev invariant-loop : tie.invariant-loop
 invariant-loop at k value bytes₀ left₀ rest₀ bytes left rest =
-    (putNumber left bytes at rest ≡ putNumber left₀ bytes₀ at rest₀) × (left ≤ left₀)
+    (put_number left bytes at rest ≡ put_number left₀ bytes₀ at rest₀) × (left ≤ left₀)
 
 abbrev decreases-loop : tie.decreases-loop
 decreases-loop at k value bytes₀ left₀ rest₀ bytes left rest = left

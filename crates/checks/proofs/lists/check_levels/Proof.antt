@@ -1,6 +1,6 @@
 -- `checks::lists::check_levels` meets its contract. Assumes nothing.
-use Rattle.checks.specs.Lists.{levelChecks, levelsChecks}
-use Rattle.checks.specs.Image.{rows_of, reactionsAt, levelsAt}
+use Rattle.checks.specs.Lists.{level_checks, levels_checks}
+use Rattle.checks.specs.Image.{rows_of, reactions_at, levels_at}
 use Rattle.answers.proofs.Loops.{Remaining, loop-laws}
 use Rattle.checks.proofs.PassedLaws.{passed_over}
 use borrow.Author.Rules.{rules}
@@ -10,17 +10,17 @@ use Rattle.checks.proofs.lists.check_levels.Statement.{statement}
 use Rattle.checks.proofs.lists.check_levels.Tie as tie
 
 abbrev invariant-loop : tie.invariant-loop
-invariant-loop p s table start len k₀ k = Remaining (levelChecks (rows_of s) (reactionsAt p s) (levelsAt p s) table start) k len
+invariant-loop p s table start len k₀ k = Remaining (level_checks (rows_of s) (reactions_at p s) (levels_at p s) table start) k len
 
 abbrev decreases-loop : tie.decreases-loop
 decreases-loop p s table start len k₀ k = len - k
 
 returns : tie.Need-returns invariant-loop decreases-loop
-unfolding levelsChecks
+unfolding levels_checks
 returns c = search loop-laws
 
 returns-2 : tie.Need-returns-2 invariant-loop decreases-loop
-unfolding levelsChecks
+unfolding levels_checks
 returns-2 c = search loop-laws
 
 pub check-levels-spec : {M : Type 1} → statement M

@@ -3,17 +3,17 @@ use native.Mathlib.Omega.{arith}
 use borrow.Author.Rules.{rules}
 use Rattle.answers.proofs.Loops.{remaining-none, no_items}
 use Rattle.answers.proofs.Quick.{tested, passed}
-use Rattle.checks.specs.Lists.{levelsChecks}
+use Rattle.checks.specs.Lists.{levels_checks}
 use Rattle.checks.proofs.PassedLaws.{passed_over}
 use Rattle.checks.proofs.lists.levels_pass.Statement.{statement}
 use Rattle.checks.proofs.lists.levels_pass.Tie as tie
 
 returns : tie.Need-returns
-unfolding levelsChecks
+unfolding levels_checks
 returns c = passed (no_items _ c.if1.true)
 
 returns-2 : tie.Need-returns-2
-unfolding levelsChecks
+unfolding levels_checks
 returns-2 c = passed (remaining-none (passed_over _ c.before.levels-past.ensures) (omega arith))
 
 returns-3 : tie.Need-returns-3

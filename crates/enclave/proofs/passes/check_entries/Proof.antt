@@ -4,31 +4,31 @@ use borrow.Author.Tests.{not-false}
 use Rattle.answers.proofs.Laws.{skip, stop}
 use Rattle.answers.proofs.Quick.{surely, exactly, stopped}
 use Rattle.enclave.proofs.Whole.{alone}
-use Rattle.enclave.specs.Passes.{listPasses, passChecks, checksOf}
+use Rattle.enclave.specs.Passes.{list_passes, pass_checks, checks_of}
 use borrow.Author.Rules.{rules}
 use Rattle.enclave.proofs.passes.check_entries.Statement.{statement}
 use Rattle.enclave.proofs.passes.check_entries.Tie as tie
 
 returns : tie.Need-returns
-unfolding listPasses checksOf passChecks
+unfolding list_passes checks_of pass_checks
 returns c =
     stopped _ c.check-level-entries.ensures c.before.before.level-entries-pass.ensures c.before.if1.true
 
 returns-2 : tie.Need-returns-2
-unfolding listPasses checksOf passChecks
+unfolding list_passes checks_of pass_checks
 returns-2 c =
     skip (surely (exactly c.before.before.before.before.level-entries-pass.ensures) (not-false _ c.before.before.before.if1.false)) refl
     (stopped _ c.check-level-entries2.ensures c.before.before.level-entries-pass2.ensures c.before.if2.true)
 
 returns-3 : tie.Need-returns-3
-unfolding listPasses checksOf passChecks
+unfolding list_passes checks_of pass_checks
 returns-3 c =
     skip (surely (exactly c.before.before.before.before.before.before.level-entries-pass.ensures) (not-false _ c.before.before.before.before.before.if1.false)) refl
     (skip (surely (exactly c.before.before.before.before.level-entries-pass2.ensures) (not-false _ c.before.before.before.if2.false)) refl
     (stopped _ c.check-lifecycle-entries.ensures c.before.before.lifecycle-entries-pass.ensures c.before.if3.true))
 
 returns-4 : tie.Need-returns-4
-unfolding listPasses checksOf passChecks
+unfolding list_passes checks_of pass_checks
 returns-4 c =
     skip (surely (exactly c.before.before.before.before.before.before.before.before.level-entries-pass.ensures) (not-false _ c.before.before.before.before.before.before.before.if1.false)) refl
     (skip (surely (exactly c.before.before.before.before.before.before.level-entries-pass2.ensures) (not-false _ c.before.before.before.before.before.if2.false)) refl
@@ -36,7 +36,7 @@ returns-4 c =
     (stopped _ c.check-lifecycle-entries2.ensures c.before.before.lifecycle-entries-pass2.ensures c.before.if4.true)))
 
 returns-5 : tie.Need-returns-5
-unfolding listPasses checksOf passChecks
+unfolding list_passes checks_of pass_checks
 returns-5 c =
     skip (surely (exactly c.before.before.before.before.before.before.before.before.before.before.level-entries-pass.ensures) (not-false _ c.before.before.before.before.before.before.before.before.before.if1.false)) refl
     (skip (surely (exactly c.before.before.before.before.before.before.before.before.level-entries-pass2.ensures) (not-false _ c.before.before.before.before.before.before.before.if2.false)) refl
@@ -45,7 +45,7 @@ returns-5 c =
     (stop _ c.before.before.check-startup-actions.ensures c.enum-told2.given.1))))
 
 returns-6 : tie.Need-returns-6
-unfolding listPasses checksOf passChecks
+unfolding list_passes checks_of pass_checks
 returns-6 c =
     skip (surely (exactly c.before.before.before.before.before.before.before.before.before.before.before.level-entries-pass.ensures) (not-false _ c.before.before.before.before.before.before.before.before.before.before.if1.false)) refl
     (skip (surely (exactly c.before.before.before.before.before.before.before.before.before.level-entries-pass2.ensures) (not-false _ c.before.before.before.before.before.before.before.before.if2.false)) refl

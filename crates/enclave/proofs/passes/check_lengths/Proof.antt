@@ -5,12 +5,12 @@ use native.Mathlib.Omega.{arith}
 use borrow.Author.Rules.{rules}
 use Rattle.answers.proofs.Loops.{Remaining, loop-laws}
 use Rattle.checks.specs.Image.{image}
-use Rattle.enclave.specs.Passes.{lengthChecks}
+use Rattle.enclave.specs.Passes.{length_checks}
 use Rattle.enclave.proofs.passes.check_lengths.Statement.{statement}
 use Rattle.enclave.proofs.passes.check_lengths.Tie as tie
 
 abbrev invariant-loop : tie.invariant-loop
-invariant-loop s i₀ i = Remaining (lengthChecks (image [] [] [] s 0)) i 8
+invariant-loop s i₀ i = Remaining (length_checks (image [] [] [] s 0)) i 8
 
 abbrev decreases-loop : tie.decreases-loop
 decreases-loop s i₀ i = 8 - i

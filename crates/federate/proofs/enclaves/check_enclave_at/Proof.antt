@@ -3,9 +3,9 @@ use Prim.Native.Nat.{ℕ, ◌<◌}
 use mathlib.Core.Path.{◌≡◌}
 use mathlib.Core.List.{List}
 use Rattle.schema.specs.Rows.{Whole}
-use Rattle.packing.specs.Starts.{recordsOf, tableStarts}
+use Rattle.packing.specs.Starts.{records_of, table_starts}
 use Rattle.checks.specs.Image.{Rising, Within}
-use Rattle.federate.specs.Records.{enclavePack}
+use Rattle.federate.specs.Records.{enclave_pack}
 use Rattle.enclave.proofs.Laid.{starts-rising, starts-inside}
 use Rattle.federate.proofs.Ends.{part-whole, part-some}
 use borrow.Author.Rules.{rules}
@@ -13,7 +13,7 @@ use Rattle.federate.proofs.enclaves.check_enclave_at.Statement.{statement}
 use Rattle.federate.proofs.enclaves.check_enclave_at.Tie as tie
 
 -- an enclave's own pack is of whole records, and its tables lie inside it
-part-laid : (p : List ℕ) (n : ℕ) {own s : List ℕ} → n < recordsOf p → own ≡ enclavePack p n → s ≡ tableStarts own 1 → Whole own × (Rising s × Within own s)
+part-laid : (p : List ℕ) (n : ℕ) {own s : List ℕ} → n < records_of p → own ≡ enclave_pack p n → s ≡ table_starts own 1 → Whole own × (Rising s × Within own s)
 part-laid p n l e f = rw (f, e) (part-whole p n l, (starts-rising _, starts-inside _ (part-some p n l)))
 
 pub check-enclave-at-spec : {M : Type 1} → statement M

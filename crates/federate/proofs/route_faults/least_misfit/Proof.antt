@@ -9,10 +9,10 @@ use Rattle.federate.proofs.FaultLaws.{scan-start, scan-late, scan-fits, scan-new
 use Rattle.federate.proofs.route_faults.least_misfit.Statement.{statement}
 use Rattle.federate.proofs.route_faults.least_misfit.Tie as tie
 use Rattle.federate.specs.RouteOrder.{Scanned}
-use Rattle.identity.specs.Text.{identityText}
+use Rattle.identity.specs.Text.{identity_text}
 
 abbrev invariant-loop : tie.invariant-loop
-invariant-loop pack batch house rows records least₀ k₀ least k = (k ≤ length rows) × Scanned (identityText batch house) pack rows k least
+invariant-loop pack batch house rows records least₀ k₀ least k = (k ≤ length rows) × Scanned (identity_text batch house) pack rows k least
 
 abbrev decreases-loop : tie.decreases-loop
 decreases-loop pack batch house rows records least₀ k₀ least k = length rows - k

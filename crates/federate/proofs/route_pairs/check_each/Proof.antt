@@ -5,11 +5,11 @@ use native.Mathlib.Omega.{arith}
 use Rattle.answers.proofs.Loops.{Remaining, loop-laws}
 use Rattle.federate.proofs.route_pairs.check_each.Statement.{statement}
 use Rattle.federate.proofs.route_pairs.check_each.Tie as tie
-use Rattle.federate.specs.RoutePairs.{routeRecordChecks}
-use Rattle.identity.specs.Text.{identityText}
+use Rattle.federate.specs.RoutePairs.{route_record_checks}
+use Rattle.identity.specs.Text.{identity_text}
 
 abbrev invariant-loop : tie.invariant-loop
-invariant-loop pack batch house records n₀ n = Remaining (routeRecordChecks (identityText batch house) pack) n records
+invariant-loop pack batch house records n₀ n = Remaining (route_record_checks (identity_text batch house) pack) n records
 
 abbrev decreases-loop : tie.decreases-loop
 decreases-loop pack batch house records n₀ n = records - n

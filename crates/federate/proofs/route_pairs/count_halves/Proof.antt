@@ -6,11 +6,11 @@ use native.Mathlib.Omega.{arith}
 use Rattle.federate.proofs.Counts.{Counted, counted_start, counted-one, counted_none, counted-all}
 use Rattle.federate.proofs.route_pairs.count_halves.Statement.{statement}
 use Rattle.federate.proofs.route_pairs.count_halves.Tie as tie
-use Rattle.federate.specs.RoutePairs.{halfAt}
-use Rattle.identity.specs.Text.{identityText}
+use Rattle.federate.specs.RoutePairs.{half_at}
+use Rattle.identity.specs.Text.{identity_text}
 
 abbrev invariant-loop : tie.invariant-loop
-invariant-loop pack batch house route half records found₀ k₀ found k = (k ≤ records) × Counted (halfAt (identityText batch house) pack route half) k found
+invariant-loop pack batch house route half records found₀ k₀ found k = (k ≤ records) × Counted (half_at (identity_text batch house) pack route half) k found
 
 abbrev decreases-loop : tie.decreases-loop
 decreases-loop pack batch house route half records found₀ k₀ found k = records - k

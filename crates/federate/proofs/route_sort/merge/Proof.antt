@@ -8,11 +8,11 @@ use Rattle.federate.proofs.OrderLaws.{before-through}
 use Rattle.federate.proofs.SortLaws.{Merging, merge-start, merge-swap, merge-left, merge-end}
 use Rattle.federate.proofs.route_sort.merge.Statement.{statement}
 use Rattle.federate.proofs.route_sort.merge.Tie as tie
-use Rattle.federate.specs.RouteOrder.{boundaryAt, before}
-use Rattle.identity.specs.Text.{identityText}
+use Rattle.federate.specs.RouteOrder.{boundary_at, before}
+use Rattle.identity.specs.Text.{identity_text}
 
 abbrev invariant-loop : tie.invariant-loop
-invariant-loop pack batch house left right out₀ i₀ j₀ k₀ out i j k = Merging (before (boundaryAt (identityText batch house) pack)) left right out i j k × (length out ≡ length out₀)
+invariant-loop pack batch house left right out₀ i₀ j₀ k₀ out i j k = Merging (before (boundary_at (identity_text batch house) pack)) left right out i j k × (length out ≡ length out₀)
 
 abbrev decreases-loop : tie.decreases-loop
 decreases-loop pack batch house left right out₀ i₀ j₀ k₀ out i j k = length out₀ - k

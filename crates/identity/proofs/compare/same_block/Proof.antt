@@ -3,13 +3,13 @@ use Prim.Native.Nat.{◌≤◌, ◌-◌}
 use mathlib.Core.Path.{◌≡◌}
 use native.Mathlib.Omega.{arith}
 use borrow.Author.Rules.{rules}
-use Rattle.identity.specs.Scan.{every, sameAt}
+use Rattle.identity.specs.Scan.{every, same_at}
 use Rattle.identity.proofs.Steps.{every-none, every_one}
 use Rattle.identity.proofs.compare.same_block.Statement.{statement}
 use Rattle.identity.proofs.compare.same_block.Tie as tie
 
 abbrev invariant-loop : tie.invariant-loop
-invariant-loop left right at same₀ k₀ same k = (k ≤ 16) × (same ≡ every (sameAt left right) at k)
+invariant-loop left right at same₀ k₀ same k = (k ≤ 16) × (same ≡ every (same_at left right) at k)
 
 abbrev decreases-loop : tie.decreases-loop
 decreases-loop left right at same₀ k₀ same k = 16 - k

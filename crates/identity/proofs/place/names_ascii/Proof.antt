@@ -8,15 +8,15 @@ use lib.ListN.{length, take, drop}
 use borrow.Author.Tests.{le-leb, lt-leb}
 use borrow.Author.Rules.{rules}
 use Rattle.identity.specs.Text.{inside, part_at}
-use Rattle.identity.specs.Short.{shortAscii}
+use Rattle.identity.specs.Short.{short_ascii}
 use Rattle.identity.proofs.place.names_ascii.Statement.{statement}
 use Rattle.identity.proofs.place.names_ascii.Tie as tie
 
 -- the n bytes of t from a: outside, and inside, where the code takes them by their end
-past : {t u : List ℕ} (a n : ℕ) → t ≡ u → length t < a + n → false ≡ (inside u a n && shortAscii (part_at u a n))
+past : {t u : List ℕ} (a n : ℕ) → t ≡ u → length t < a + n → false ≡ (inside u a n && short_ascii (part_at u a n))
 past {t} {u} a n e l = rw (lt-leb (a + n) (length u) (rw (sym e) l))
 
-part : {t u : List ℕ} {r : Bool} (a n : ℕ) → t ≡ u → a + n ≤ length t → r ≡ shortAscii (take (a + n - a) (drop a t)) → r ≡ (inside u a n && shortAscii (part_at u a n))
+part : {t u : List ℕ} {r : Bool} (a n : ℕ) → t ≡ u → a + n ≤ length t → r ≡ short_ascii (take (a + n - a) (drop a t)) → r ≡ (inside u a n && short_ascii (part_at u a n))
 part {t} {u} a n e l h =
     let w : a + n - a ≡ n = omega arith in
     let i = le-leb (a + n) (length u) (rw (sym e) l) in

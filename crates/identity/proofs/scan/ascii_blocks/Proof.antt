@@ -4,13 +4,13 @@ use native.Mathlib.Omega.{arith}
 use lib.ListN.{length}
 use borrow.Author.Rules.{rules}
 use borrow.Author.Tests.{not-false}
-use Rattle.identity.specs.Scan.{asciiAt, Run}
+use Rattle.identity.specs.Scan.{ascii_at, Run}
 use Rattle.identity.proofs.Steps.{run_none, run-block}
 use Rattle.identity.proofs.scan.ascii_blocks.Statement.{statement}
 use Rattle.identity.proofs.scan.ascii_blocks.Tie as tie
 
 abbrev invariant-loop : tie.invariant-loop
-invariant-loop text at left k₀ k = Run (asciiAt text) at k (length text)
+invariant-loop text at left k₀ k = Run (ascii_at text) at k (length text)
 
 abbrev decreases-loop : tie.decreases-loop
 decreases-loop text at left k₀ k = left - k

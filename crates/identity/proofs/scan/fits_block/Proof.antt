@@ -4,13 +4,13 @@ use mathlib.Core.Path.{◌≡◌}
 use native.Mathlib.Omega.{arith}
 use borrow.Author.Rules.{rules}
 use Rattle.identity.specs.Scan.{every}
-use Rattle.identity.specs.Window.{fitsAt}
+use Rattle.identity.specs.Window.{fits_at}
 use Rattle.identity.proofs.Steps.{every-none, every_one}
 use Rattle.identity.proofs.scan.fits_block.Statement.{statement}
 use Rattle.identity.proofs.scan.fits_block.Tie as tie
 
 abbrev invariant-loop : tie.invariant-loop
-invariant-loop any text at all₀ k₀ all k = (k ≤ 16) × (all ≡ every (fitsAt any text) at k)
+invariant-loop any text at all₀ k₀ all k = (k ≤ 16) × (all ≡ every (fits_at any text) at k)
 
 abbrev decreases-loop : tie.decreases-loop
 decreases-loop any text at all₀ k₀ all k = 16 - k

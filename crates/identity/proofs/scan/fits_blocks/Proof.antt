@@ -5,13 +5,13 @@ use lib.ListN.{length}
 use borrow.Author.Rules.{rules}
 use borrow.Author.Tests.{not-false}
 use Rattle.identity.specs.Scan.{Run}
-use Rattle.identity.specs.Window.{fitsAt}
+use Rattle.identity.specs.Window.{fits_at}
 use Rattle.identity.proofs.Steps.{run_none, run-block}
 use Rattle.identity.proofs.scan.fits_blocks.Statement.{statement}
 use Rattle.identity.proofs.scan.fits_blocks.Tie as tie
 
 abbrev invariant-loop : tie.invariant-loop
-invariant-loop any text at rest k₀ k = Run (fitsAt any text) at k (length text - 1)
+invariant-loop any text at rest k₀ k = Run (fits_at any text) at k (length text - 1)
 
 abbrev decreases-loop : tie.decreases-loop
 decreases-loop any text at rest k₀ k = rest - k

@@ -2,15 +2,15 @@
 use Prim.Native.Nat.{◌-◌}
 use lib.ListN.{length}
 use borrow.Author.Rules.{rules}
-use Rattle.identity.specs.Identity.{validId}
-use Rattle.identity.specs.Scan.{idFrom}
+use Rattle.identity.specs.Identity.{valid_id}
+use Rattle.identity.specs.Scan.{id_from}
 use Rattle.identity.proofs.Steps.{Kept, step-laws}
 use Rattle.identity.proofs.Valid.{id-start, id-end}
 use Rattle.identity.proofs.scan.id_scan.Statement.{statement}
 use Rattle.identity.proofs.scan.id_scan.Tie as tie
 
 abbrev invariant-loop : tie.invariant-loop
-invariant-loop text at₀ at = Kept (validId text) (idFrom text) (length text) at
+invariant-loop text at₀ at = Kept (valid_id text) (id_from text) (length text) at
 
 abbrev decreases-loop : tie.decreases-loop
 decreases-loop text at₀ at = length text - at

@@ -3,13 +3,13 @@ use Prim.Native.Nat.{◌≤◌, ◌-◌}
 use mathlib.Core.Path.{◌≡◌}
 use native.Mathlib.Omega.{arith}
 use borrow.Author.Rules.{rules}
-use Rattle.identity.specs.Scan.{every, printableAt}
+use Rattle.identity.specs.Scan.{every, printable_at}
 use Rattle.identity.proofs.Steps.{every-none, every_one}
 use Rattle.identity.proofs.scan.printable_block.Statement.{statement}
 use Rattle.identity.proofs.scan.printable_block.Tie as tie
 
 abbrev invariant-loop : tie.invariant-loop
-invariant-loop text at all₀ k₀ all k = (k ≤ 16) × (all ≡ every (printableAt text) at k)
+invariant-loop text at all₀ k₀ all k = (k ≤ 16) × (all ≡ every (printable_at text) at k)
 
 abbrev decreases-loop : tie.decreases-loop
 decreases-loop text at all₀ k₀ all k = 16 - k

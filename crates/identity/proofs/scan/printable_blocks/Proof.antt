@@ -4,13 +4,13 @@ use native.Mathlib.Omega.{arith}
 use lib.ListN.{length}
 use borrow.Author.Rules.{rules}
 use borrow.Author.Tests.{not-false}
-use Rattle.identity.specs.Scan.{printableAt, Run}
+use Rattle.identity.specs.Scan.{printable_at, Run}
 use Rattle.identity.proofs.Steps.{run_none, run-block}
 use Rattle.identity.proofs.scan.printable_blocks.Statement.{statement}
 use Rattle.identity.proofs.scan.printable_blocks.Tie as tie
 
 abbrev invariant-loop : tie.invariant-loop
-invariant-loop text at left k₀ k = Run (printableAt text) at k (length text - 1)
+invariant-loop text at left k₀ k = Run (printable_at text) at k (length text - 1)
 
 abbrev decreases-loop : tie.decreases-loop
 decreases-loop text at left k₀ k = left - k

@@ -3,14 +3,14 @@ use Prim.Native.Nat.{◌-◌}
 use lib.ListN.{length}
 use borrow.Author.Rules.{rules}
 use Rattle.identity.specs.Utf8.{utf8}
-use Rattle.identity.specs.Scan.{utf8From}
+use Rattle.identity.specs.Scan.{utf8_from}
 use Rattle.identity.proofs.Steps.{Kept, step-laws}
 use Rattle.identity.proofs.Utf8.{utf8-start, utf8-end}
 use Rattle.identity.proofs.scan.utf8_scan.Statement.{statement}
 use Rattle.identity.proofs.scan.utf8_scan.Tie as tie
 
 abbrev invariant-loop : tie.invariant-loop
-invariant-loop text at₀ at = Kept (utf8 text) (utf8From text) (length text) at
+invariant-loop text at₀ at = Kept (utf8 text) (utf8_from text) (length text) at
 
 abbrev decreases-loop : tie.decreases-loop
 decreases-loop text at₀ at = length text - at

@@ -2,7 +2,7 @@
 use Prim.Native.Nat.{◌≤◌}
 use native.Mathlib.Omega.{arith}
 use borrow.Author.Rules.{rules}
-use Rattle.identity.specs.Window.{quietAt}
+use Rattle.identity.specs.Window.{quiet_at}
 use Rattle.identity.proofs.Tests.{tested}
 use Rattle.identity.proofs.Steps.{not_there}
 use Rattle.identity.proofs.scan.whole_scalars.Statement.{statement}
@@ -17,7 +17,7 @@ decreases-loop text at k w₀ w = w
 backed : tie.Need-overflow-sub-w invariant-loop decreases-loop
 backed c =
     let a = c.before.before.before.before.args in
-    not_there (quietAt a.text.now) a.at _ _ c.before.before.before.before.requires.1.1 c.before.quiet.ensures c.if1.true
+    not_there (quiet_at a.text.now) a.at _ _ c.before.before.before.before.requires.1.1 c.before.quiet.ensures c.if1.true
 
 pub whole-scalars-spec : {M : Type 1} → statement M
 whole-scalars-spec =

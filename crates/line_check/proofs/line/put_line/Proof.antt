@@ -3,7 +3,7 @@ use mathlib.Core.Path.{sym, ◌∙◌}
 use native.Mathlib.Omega.{arith}
 use lib.Seq.{length-take-le}
 use Rattle.io.proofs.Counting.{prefix_len_of_le}
-use Rattle.line_check.specs.Line.{fileLine}
+use Rattle.line_check.specs.Line.{file_line}
 use Rattle.line_check.proofs.Lines.{inside-read}
 use borrow.Author.Rules.{rules}
 use Rattle.line_check.proofs.line.put_line.Statement.{statement}
@@ -25,15 +25,15 @@ slice-aggregate-put-checked-3 c =
     sym (length-take-le _ _ (inside-read a.args.files _ _ _ c.before.before.before.before.before.files.given.1 a.requires.1).1.1)
 
 returns : tie.Need-returns
-unfolding fileLine
+unfolding file_line
 returns c = (prefix_len_of_le _ _ (omega arith), c.before.before.put.ensures.1 ∙ rw c.before.before.before.before.before.enum_told.given.1)
 
 returns-2 : tie.Need-returns-2
-unfolding fileLine
+unfolding file_line
 returns-2 c = (prefix_len_of_le _ _ (omega arith), c.before.before.put2.ensures.1 ∙ rw c.before.before.before.before.before.enum-told2.given.1)
 
 returns-3 : tie.Need-returns-3
-unfolding fileLine
+unfolding file_line
 returns-3 c = (prefix_len_of_le _ _ c.before.before.put-checked.ensures.0, c.before.before.put-checked.ensures.1 ∙ rw c.before.before.before.before.before.before.before.before.files.given.1)
 
 pub put-line-spec : {M : Type 1} → statement M

@@ -7,20 +7,20 @@ use native.Mathlib.Numerals.{add-one}
 use native.Mathlib.Omega.{arith}
 use lib.ListN.{take, length}
 use borrow.Author.Rules.{rules}
-use Rattle.line_check.specs.Line.{numbersText}
+use Rattle.line_check.specs.Line.{numbers_text}
 use Rattle.line_check.proofs.Lines.{numbers-step, take-least}
 use Rattle.line_check.proofs.line.put_numbers.Statement.{statement}
 use Rattle.line_check.proofs.line.put_numbers.Tie as tie
 
 abbrev invariant-loop : tie.invariant-loop
 invariant-loop out₀ used len values used₀ i₀ out used' i =
-    (take used' out ≡ take used out₀ ++ numbersText (take i values)) × ((used' ≤ used + 21 * i) × ((i ≤ len) × ((len ≤ 8) × (length out ≡ length out₀))))
+    (take used' out ≡ take used out₀ ++ numbers_text (take i values)) × ((used' ≤ used + 21 * i) × ((i ≤ len) × ((len ≤ 8) × (length out ≡ length out₀))))
 
 abbrev decreases-loop : tie.decreases-loop
 decreases-loop out₀ used len values used₀ i₀ out used' i = len - i
 
 loop-holds : tie.Need-loop-init invariant-loop decreases-loop
-unfolding numbersText
+unfolding numbers_text
 loop-holds c = (sym (append-nil _), (omega arith, (omega arith, (omega arith, refl))))
 
 loop-again : tie.Need-loop-preserved invariant-loop decreases-loop
@@ -39,7 +39,7 @@ returns c =
     let eight : length a.args.list.values ≡ 8 = search rules in
     let all : l.i ≡ c.before.before.before.least.result = le_antisymm l.invariant.1.1.0 c.loop-test.false in (
       omega arith,
-      l.invariant.0 ∙ ap (λ (ns : List ℕ). take a.args.used a.args.out.now ++ numbersText ns)
+      l.invariant.0 ∙ ap (λ (ns : List ℕ). take a.args.used a.args.out.now ++ numbers_text ns)
           (ap (λ (k : ℕ). take k a.args.list.values) (all ∙ c.before.before.before.least.ensures ∙ ap (λ (k : ℕ). min a.args.list.len k) (sym eight))
           ∙ take-least a.args.list.len a.args.list.values),
     )

@@ -3,7 +3,7 @@ use mathlib.Core.Path.{◌∙◌}
 use mathlib.Core.List.{[], ◌∷◌, append_assoc}
 use native.Mathlib.Omega.{arith}
 use lib.ListN.{take}
-use Rattle.line_check.specs.Line.{numbersText}
+use Rattle.line_check.specs.Line.{numbers_text}
 use borrow.Author.Rules.{rules}
 use Rattle.line_check.proofs.line.put_words.Statement.{statement}
 use Rattle.line_check.proofs.line.put_words.Tie as tie
@@ -14,7 +14,7 @@ returns c =
       omega arith,
       c.before.before.put2.ensures.1
           ∙ rw (c.before.before.before.before.before.before.before.put-numbers.ensures.1, c.before.before.before.before.before.before.before.before.before.before.before.put.ensures.1)
-          (append_assoc a.word.now (numbersText (take a.list.len a.list.values)) (10 ∷ [])),
+          (append_assoc a.word.now (numbers_text (take a.list.len a.list.values)) (10 ∷ [])),
     )
 
 pub put-words-spec : {M : Type 1} → statement M

@@ -1,12 +1,12 @@
 -- `list_checks::level_lists::action_triggers_pass` meets its contract. Assumes nothing.
 use Rattle.answers.proofs.Quick.{exactly}
-use Rattle.list_checks.specs.ListTables.{actionTriggerChecks}
+use Rattle.list_checks.specs.ListTables.{action_trigger_checks}
 use borrow.Author.Rules.{rules}
 use Rattle.list_checks.proofs.level_lists.action_triggers_pass.Statement.{statement}
 use Rattle.list_checks.proofs.level_lists.action_triggers_pass.Tie as tie
 
 returns : tie.Need-returns
-unfolding actionTriggerChecks
+unfolding action_trigger_checks
 returns c = rw (← c.before.before.row_of.ensures.0, ← c.before.action-triggers-of.ensures) (exactly c.levels-pass.ensures)
 
 pub action-triggers-pass-spec : {M : Type 1} → statement M

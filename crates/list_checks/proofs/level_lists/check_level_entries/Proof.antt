@@ -4,13 +4,13 @@ use mathlib.Core.List.{[]}
 use native.Mathlib.Omega.{arith}
 use Rattle.answers.proofs.Loops.{Remaining, loop-laws}
 use Rattle.checks.specs.Image.{image}
-use Rattle.list_checks.specs.ListTables.{levelEntryChecks}
+use Rattle.list_checks.specs.ListTables.{level_entry_checks}
 use borrow.Author.Rules.{rules}
 use Rattle.list_checks.proofs.level_lists.check_level_entries.Statement.{statement}
 use Rattle.list_checks.proofs.level_lists.check_level_entries.Tie as tie
 
 abbrev invariant-loop : tie.invariant-loop
-invariant-loop p s table rows i₀ i = Remaining (levelEntryChecks table (image p [] [] s 0)) i rows
+invariant-loop p s table rows i₀ i = Remaining (level_entry_checks table (image p [] [] s 0)) i rows
 
 abbrev decreases-loop : tie.decreases-loop
 decreases-loop p s table rows i₀ i = rows - i

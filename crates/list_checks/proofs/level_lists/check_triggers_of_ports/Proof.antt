@@ -5,12 +5,12 @@ use native.Mathlib.Omega.{arith}
 use borrow.Author.Rules.{rules}
 use Rattle.answers.proofs.Loops.{Remaining, loop-laws}
 use Rattle.checks.specs.Image.{image}
-use Rattle.list_checks.specs.ListTables.{portTriggerChecks}
+use Rattle.list_checks.specs.ListTables.{port_trigger_checks}
 use Rattle.list_checks.proofs.level_lists.check_triggers_of_ports.Statement.{statement}
 use Rattle.list_checks.proofs.level_lists.check_triggers_of_ports.Tie as tie
 
 abbrev invariant-loop : tie.invariant-loop
-invariant-loop p s rows i₀ i = Remaining (portTriggerChecks (image p [] [] s 0)) i rows
+invariant-loop p s rows i₀ i = Remaining (port_trigger_checks (image p [] [] s 0)) i rows
 
 abbrev decreases-loop : tie.decreases-loop
 decreases-loop p s rows i₀ i = rows - i

@@ -5,12 +5,12 @@ use native.Mathlib.Omega.{arith}
 use borrow.Author.Rules.{rules}
 use Rattle.answers.proofs.Loops.{Remaining, loop-laws}
 use Rattle.checks.specs.Image.{image}
-use Rattle.list_checks.specs.ListTables.{enabledModesChecks}
+use Rattle.list_checks.specs.ListTables.{enabled_modes_checks}
 use Rattle.list_checks.proofs.list_tables.check_modes_of_reactions.Statement.{statement}
 use Rattle.list_checks.proofs.list_tables.check_modes_of_reactions.Tie as tie
 
 abbrev invariant-loop : tie.invariant-loop
-invariant-loop p s rows i₀ i = Remaining (enabledModesChecks (image p [] [] s 0)) i rows
+invariant-loop p s rows i₀ i = Remaining (enabled_modes_checks (image p [] [] s 0)) i rows
 
 abbrev decreases-loop : tie.decreases-loop
 decreases-loop p s rows i₀ i = rows - i

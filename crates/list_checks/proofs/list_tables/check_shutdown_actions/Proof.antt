@@ -5,12 +5,12 @@ use native.Mathlib.Omega.{arith}
 use borrow.Author.Rules.{rules}
 use Rattle.answers.proofs.Loops.{Remaining, loop-laws}
 use Rattle.checks.specs.Image.{image}
-use Rattle.list_checks.specs.ListTables.{shutdownActionChecks}
+use Rattle.list_checks.specs.ListTables.{shutdown_action_checks}
 use Rattle.list_checks.proofs.list_tables.check_shutdown_actions.Statement.{statement}
 use Rattle.list_checks.proofs.list_tables.check_shutdown_actions.Tie as tie
 
 abbrev invariant-loop : tie.invariant-loop
-invariant-loop p s rows i₀ i = Remaining (shutdownActionChecks (image p [] [] s 0)) i rows
+invariant-loop p s rows i₀ i = Remaining (shutdown_action_checks (image p [] [] s 0)) i rows
 
 abbrev decreases-loop : tie.decreases-loop
 decreases-loop p s rows i₀ i = rows - i

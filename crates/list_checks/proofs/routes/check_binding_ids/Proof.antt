@@ -4,13 +4,13 @@ use native.Mathlib.Omega.{arith}
 use Rattle.answers.proofs.Loops.{Remaining, loop-laws}
 use Rattle.checks.proofs.PassedLaws.{passed_over}
 use Rattle.checks.specs.Image.{image}
-use Rattle.list_checks.specs.Routes.{bindingIdChecks}
+use Rattle.list_checks.specs.Routes.{binding_id_checks}
 use borrow.Author.Rules.{rules}
 use Rattle.list_checks.proofs.routes.check_binding_ids.Statement.{statement}
 use Rattle.list_checks.proofs.routes.check_binding_ids.Tie as tie
 
 abbrev invariant-loop : tie.invariant-loop
-invariant-loop p batch house s rows i₀ i = Remaining (bindingIdChecks (image p batch house s 0)) i rows
+invariant-loop p batch house s rows i₀ i = Remaining (binding_id_checks (image p batch house s 0)) i rows
 
 abbrev decreases-loop : tie.decreases-loop
 decreases-loop p batch house s rows i₀ i = rows - i

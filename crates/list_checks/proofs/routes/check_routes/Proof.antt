@@ -3,13 +3,13 @@ use Prim.Native.Nat.{◌-◌}
 use native.Mathlib.Omega.{arith}
 use Rattle.answers.proofs.Loops.{Remaining, loop-laws}
 use Rattle.checks.specs.Image.{image}
-use Rattle.list_checks.specs.Routes.{routeChecks}
+use Rattle.list_checks.specs.Routes.{route_checks}
 use borrow.Author.Rules.{rules}
 use Rattle.list_checks.proofs.routes.check_routes.Statement.{statement}
 use Rattle.list_checks.proofs.routes.check_routes.Tie as tie
 
 abbrev invariant-loop : tie.invariant-loop
-invariant-loop p batch house s rows i₀ i = Remaining (routeChecks (image p batch house s 0)) i rows
+invariant-loop p batch house s rows i₀ i = Remaining (route_checks (image p batch house s 0)) i rows
 
 abbrev decreases-loop : tie.decreases-loop
 decreases-loop p batch house s rows i₀ i = rows - i

@@ -2,16 +2,16 @@
 use mathlib.Core.Path.{◌≡◌}
 use borrow.Author.Rules.{rules}
 use Rattle.packing.specs.Shape.{layout_of}
-use Rattle.packing.specs.Clean.{headClean, absentClean}
+use Rattle.packing.specs.Clean.{head_clean, absent_clean}
 use Rattle.packing.proofs.Tests.{refused, held}
 use Rattle.packing.proofs.Tables.{inside-0, inside-1}
 use Rattle.packing.proofs.clean.fields_clean.Statement.{statement}
 use Rattle.packing.proofs.clean.fields_clean.Tie as tie
 
-head : (c : tie.After-head-clean) → c.head-clean.result ≡ headClean (layout_of c.before.before.before.before.before.before.args.table) c.before.before.before.before.before.before.args.p.now c.before.before.before.before.before.before.args.n
+head : (c : tie.After-head-clean) → c.head-clean.result ≡ head_clean (layout_of c.before.before.before.before.before.before.args.table) c.before.before.before.before.before.before.args.p.now c.before.before.before.before.before.before.args.n
 head c = rw (c.head-clean.ensures, c.before.before.before.before.shape_of.ensures)
 
-absent : (c : tie.After-absent-clean) → c.absent-clean.result ≡ absentClean 0 (layout_of c.before.before.before.before.before.before.before.before.before.args.table) c.before.before.before.before.before.before.before.before.before.args.p.now c.before.before.before.before.before.before.before.before.before.args.n
+absent : (c : tie.After-absent-clean) → c.absent-clean.result ≡ absent_clean 0 (layout_of c.before.before.before.before.before.before.before.before.before.args.table) c.before.before.before.before.before.before.before.before.before.args.p.now c.before.before.before.before.before.before.before.before.before.args.n
 absent c = rw (c.absent-clean.ensures, c.before.bit.ensures, c.before.before.before.before.before.before.before.shape_of.ensures)
 
 pub fields-clean-spec : {M : Type 1} → statement M

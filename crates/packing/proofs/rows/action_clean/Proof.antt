@@ -3,7 +3,7 @@ use mathlib.Core.Path.{◌≡◌, sym}
 use borrow.Author.Rules.{rules}
 use Rattle.schema.specs.Layout.{layouts}
 use Rattle.packing.specs.Shape.{layout_of}
-use Rattle.packing.specs.Clean.{tailClean, kindClean}
+use Rattle.packing.specs.Clean.{tail_clean, kind_clean}
 use Rattle.packing.proofs.Tables.{used-by}
 use Rattle.packing.proofs.CleanRuns.{tail-stray, fields-stray, kind-decides}
 use Rattle.packing.proofs.rows.action_clean.Statement.{statement}
@@ -15,11 +15,11 @@ inside c κs =
     let e = used-by 3 c.wide.ensures.0 c.before.shape_of.ensures in
     search rules
 
-tail : (c : tie.After-zeros-32) → c.zeros-32.result ≡ tailClean (layout_of 3) c.before.before.before.before.args.p.now c.before.before.before.before.args.n
+tail : (c : tie.After-zeros-32) → c.zeros-32.result ≡ tail_clean (layout_of 3) c.before.before.before.before.args.p.now c.before.before.before.before.args.n
 unfolding layouts
 tail c = rw (c.zeros-32.ensures, c.before.wide.ensures.0, c.before.before.shape_of.ensures)
 
-kind : (c : tie.After-timing-clean) → c.timing-clean.result ≡ kindClean 3 c.before.before.before.before.before.before.before.before.before.before.before.args.p.now c.before.before.before.before.before.before.before.before.before.before.before.args.n
+kind : (c : tie.After-timing-clean) → c.timing-clean.result ≡ kind_clean 3 c.before.before.before.before.before.before.before.before.before.before.before.args.p.now c.before.before.before.before.before.before.before.before.before.before.before.args.n
 kind c = rw (c.timing-clean.ensures, c.before.before.bit.ensures)
 
 pub action-clean-spec : {M : Type 1} → statement M

@@ -9,8 +9,8 @@ use borrow.Author.Rules.{rules}
 use borrow.Author.Tests.{eqb-true, eqb-false}
 use Rattle.schema.specs.Layout.{layouts}
 use Rattle.packing.specs.Shape.{layout_of, shape_of}
-use Rattle.packing.specs.Clean.{tailClean, kindClean}
-use Rattle.packing.specs.Runs.{fieldsClean}
+use Rattle.packing.specs.Clean.{tail_clean, kind_clean}
+use Rattle.packing.specs.Runs.{fields_clean}
 use Rattle.packing.proofs.Tests.{cases}
 use Rattle.packing.proofs.Tables.{used-by}
 use Rattle.packing.proofs.Zeros.{zeros-tail}
@@ -21,8 +21,8 @@ use Rattle.packing.proofs.rows.plain_clean.Tie as tie
 -- what is asked of bytes 1 to 3 and of fields is the same in both tables, and nothing beside
 record Alike (p : List ℕ) (n t : ℕ) : Type 0 where
   half : (shape_of t).used ≤ 32
-  fields : fieldsClean (layout_of 4) p n ≡ fieldsClean (layout_of t) p n
-  kind : kindClean t p n ≡ true
+  fields : fields_clean (layout_of 4) p n ≡ fields_clean (layout_of t) p n
+  kind : kind_clean t p n ≡ true
 
 alike : (p : List ℕ) (n t : ℕ) → 4 ≤ t → t ≤ 6 → (t ≡ 5 → ⊥) → Alike p n t
 unfolding layouts
@@ -36,7 +36,7 @@ here c =
     let s = c.before.before.before in
     (used-by _ c.wide.ensures.0 c.before.shape-of.ensures, alike _ _ _ s.requires.1.1.0 s.requires.1.1.1.0 s.requires.1.1.1.1)
 
-tail : (c : tie.After-zeros-322) → c.before.zeros-32.result && c.zeros-322.result ≡ tailClean (layout_of c.before.before.before.before.before.args.table) c.before.before.before.before.before.args.p.now c.before.before.before.before.before.args.n
+tail : (c : tie.After-zeros-322) → c.before.zeros-32.result && c.zeros-322.result ≡ tail_clean (layout_of c.before.before.before.before.before.args.table) c.before.before.before.before.before.args.p.now c.before.before.before.before.before.args.n
 tail c =
     let h = here c.before.before in
     let l = h.1.half in

@@ -3,7 +3,7 @@ use mathlib.Core.Path.{◌≡◌, sym}
 use borrow.Author.Rules.{rules}
 use Rattle.schema.specs.Layout.{layouts}
 use Rattle.packing.specs.Shape.{layout_of}
-use Rattle.packing.specs.Clean.{tailClean}
+use Rattle.packing.specs.Clean.{tail_clean}
 use Rattle.packing.proofs.Tables.{used-by}
 use Rattle.packing.proofs.CleanRuns.{tail-stray, fields-stray, kind-decides}
 use Rattle.packing.proofs.rows.reaction_clean.Statement.{statement}
@@ -15,7 +15,7 @@ inside c κs =
     let e = used-by 5 c.wide.ensures.0 c.before.shape_of.ensures in
     search rules
 
-tail : (c : tie.After-zeros-8) → c.zeros-8.result ≡ tailClean (layout_of 5) c.before.before.before.before.args.p.now c.before.before.before.before.args.n
+tail : (c : tie.After-zeros-8) → c.zeros-8.result ≡ tail_clean (layout_of 5) c.before.before.before.before.args.p.now c.before.before.before.before.args.n
 unfolding layouts
 tail c = rw (c.zeros-8.ensures, c.before.wide.ensures.0, c.before.before.shape_of.ensures)
 

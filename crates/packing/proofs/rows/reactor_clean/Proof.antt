@@ -5,7 +5,7 @@ use native.Mathlib.Omega.{arith}
 use borrow.Author.Rules.{rules}
 use Rattle.schema.specs.Layout.{layouts}
 use Rattle.packing.specs.Shape.{layout_of}
-use Rattle.packing.specs.Clean.{tailClean}
+use Rattle.packing.specs.Clean.{tail_clean}
 use Rattle.packing.proofs.Tables.{used-by}
 use Rattle.packing.proofs.Zeros.{zeros-tail}
 use Rattle.packing.proofs.CleanRuns.{tail-stray, fields-decide}
@@ -18,7 +18,7 @@ inside c κs =
     let e = used-by 2 c.wide.ensures.0 c.before.shape_of.ensures in
     search rules
 
-tail : (c : tie.After-zeros-162) → c.before.zeros-16.result && c.zeros-162.result ≡ tailClean (layout_of 2) c.before.before.before.before.before.args.p.now c.before.before.before.before.before.args.n
+tail : (c : tie.After-zeros-162) → c.before.zeros-16.result && c.zeros-162.result ≡ tail_clean (layout_of 2) c.before.before.before.before.before.args.p.now c.before.before.before.before.before.args.n
 unfolding layouts
 tail c =
     rw (c.zeros-162.ensures, c.before.zeros-16.ensures, c.before.before.wide.ensures.0, c.before.before.before.shape_of.ensures)

@@ -2,12 +2,12 @@
 use Prim.Native.Nat.{◌-◌}
 use borrow.Author.Rules.{rules}
 use Rattle.answers.proofs.Loops.{Remaining, loop-laws}
-use Rattle.packing.specs.Packing.{identityChecks}
+use Rattle.packing.specs.Packing.{identity_checks}
 use Rattle.packing.proofs.rules.check_identities.Statement.{statement}
 use Rattle.packing.proofs.rules.check_identities.Tie as tie
 
 abbrev invariant-loop : tie.invariant-loop
-invariant-loop pack batch house n start count j₀ j = Remaining (identityChecks pack batch house n) j count
+invariant-loop pack batch house n start count j₀ j = Remaining (identity_checks pack batch house n) j count
 
 abbrev decreases-loop : tie.decreases-loop
 decreases-loop pack batch house n start count j₀ j = count - j

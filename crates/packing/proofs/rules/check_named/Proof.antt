@@ -4,7 +4,7 @@ use mathlib.Core.Path.{refl}
 use native.Mathlib.Omega.{arith}
 use borrow.Author.Rules.{rules}
 use Rattle.answers.specs.Checks.{run, Decides}
-use Rattle.packing.specs.Runs.{namedChecks}
+use Rattle.packing.specs.Runs.{named_checks}
 use Rattle.packing.proofs.Tables.{pack-length}
 use Rattle.packing.proofs.CheckRuns.{Left, left-past, left-stop, left-none, one-item}
 use Rattle.packing.proofs.Places.{unnamed, passed-left}
@@ -12,13 +12,13 @@ use Rattle.packing.proofs.rules.check_named.Statement.{statement}
 use Rattle.packing.proofs.rules.check_named.Tie as tie
 
 abbrev invariant-loop : tie.invariant-loop
-invariant-loop pack batch house n next count m₀ m = (n ≤ m) × Left (run (namedChecks pack batch house) n (next - n)) (namedChecks pack batch house) m next
+invariant-loop pack batch house n next count m₀ m = (n ≤ m) × Left (run (named_checks pack batch house) n (next - n)) (named_checks pack batch house) m next
 
 abbrev decreases-loop : tie.decreases-loop
 decreases-loop pack batch house n next count m₀ m = next - m
 
 -- record m has `count` identities, whose checks are decided
-decided : (c : tie.After-check-identities invariant-loop decreases-loop) → Decides (namedChecks c.before.before.before.before.before.before.before.before.args.pack.now c.before.before.before.before.before.before.before.before.args.batch.now c.before.before.before.before.before.before.before.before.args.house.now c.before.before.loop.m) c.check-identities.result
+decided : (c : tie.After-check-identities invariant-loop decreases-loop) → Decides (named_checks c.before.before.before.before.before.before.before.before.args.pack.now c.before.before.before.before.before.before.before.before.args.batch.now c.before.before.before.before.before.before.before.before.args.house.now c.before.before.loop.m) c.check-identities.result
 decided c =
     let l = c.before.before.loop in
     rw (c.before.before.before.before.before.before.before.before.requires.1.each l.m l.invariant.0 c.before.loop-test.true) at c.check-identities.ensures

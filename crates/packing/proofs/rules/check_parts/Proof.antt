@@ -2,17 +2,17 @@
 use mathlib.Core.Path.{refl}
 use borrow.Author.Rules.{rules}
 use Rattle.answers.proofs.Laws.{pass, fail, decide}
-use Rattle.packing.specs.Packing.{packingChecks}
+use Rattle.packing.specs.Packing.{packing_checks}
 use Rattle.packing.proofs.Tests.{held, refused}
 use Rattle.packing.proofs.rules.check_parts.Statement.{statement}
 use Rattle.packing.proofs.rules.check_parts.Tie as tie
 
 returns : tie.Need-returns
-unfolding packingChecks
+unfolding packing_checks
 returns c = (decide (fail (refused c.before.pack-fits.ensures c.if1.true)), λ _. refl)
 
 returns-2 : tie.Need-returns-2
-unfolding packingChecks
+unfolding packing_checks
 returns-2 c = (
   decide
       (pass (held c.before.before.before.pack-fits.ensures c.before.before.if1.false)
@@ -21,7 +21,7 @@ returns-2 c = (
 )
 
 returns-3 : tie.Need-returns-3
-unfolding packingChecks
+unfolding packing_checks
 returns-3 c = (
   decide
       (pass (held c.before.before.before.before.before.pack-fits.ensures c.before.before.before.before.if1.false)
@@ -31,7 +31,7 @@ returns-3 c = (
 )
 
 returns-4 : tie.Need-returns-4
-unfolding packingChecks
+unfolding packing_checks
 returns-4 c = (
   decide
       (pass (held c.before.before.before.before.before.before.before.pack-fits.ensures c.before.before.before.before.before.before.if1.false)

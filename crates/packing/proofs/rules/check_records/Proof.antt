@@ -11,7 +11,7 @@ use Rattle.answers.specs.Checks.{Check, run, Decides}
 use Rattle.answers.proofs.Laws.{pass, fail}
 use Rattle.schema.specs.Rows.{byte_of}
 use Rattle.packing.specs.declared.shape.Shape.{Shape}
-use Rattle.packing.specs.Packing.{recordChecks}
+use Rattle.packing.specs.Packing.{record_checks}
 use Rattle.packing.proofs.Tests.{refused, held}
 use Rattle.packing.proofs.Tables.{pack-length}
 use Rattle.packing.proofs.Records.{record-inside, record-end, table_at}
@@ -26,7 +26,7 @@ abbrev invariant-loop : tie.invariant-loop
 invariant-loop kind pack batch house starts₀ found₀ t₀ n₀ starts found t n =
     (starts ≡ starts₀)
     × (Placed kind pack found t n
-    × Left (run (recordChecks kind pack batch house) 0 (length pack / 64)) (recordChecks kind pack batch house) n (length pack / 64))
+    × Left (run (record_checks kind pack batch house) 0 (length pack / 64)) (record_checks kind pack batch house) n (length pack / 64))
 
 abbrev decreases-loop : tie.decreases-loop
 decreases-loop kind pack batch house starts₀ found₀ t₀ n₀ starts found t n = length pack / 64 - n
@@ -57,7 +57,7 @@ still c =
     c.if2.branch
 
 abbrev checks : tie.Start invariant-loop decreases-loop → ℕ → List Check
-checks s = recordChecks s.args.kind s.args.pack.now s.args.batch.now s.args.house.now
+checks s = record_checks s.args.kind s.args.pack.now s.args.batch.now s.args.house.now
 
 -- the run from record n ends inside, past n
 ends : (c : tie.Else4 invariant-loop decreases-loop) → (c.before.before.before.before.before.before.before.before.before.before.before.before.before.loop.n < c.before.past-clean.result) × (c.before.past-clean.result ≤ length c.before.before.before.before.before.before.before.before.before.before.before.before.before.before.before.before.before.args.pack.now / 64)
@@ -80,7 +80,7 @@ returns c =
     (left-none l.invariant.1.1 e, λ k. placed_end s.requires l.invariant.1.0 c.fix-rows.ensures e k)
 
 returns-2 : tie.Need-returns-2 invariant-loop decreases-loop
-unfolding recordChecks
+unfolding record_checks
 returns-2 c =
     let i = inside c.before.before.before in
     let v = c.before.before.before.before.before.before.before.loop.invariant in
@@ -104,7 +104,7 @@ loop-again c =
     )
 
 returns-3 : tie.Need-returns-3 invariant-loop decreases-loop
-unfolding recordChecks
+unfolding record_checks
 returns-3 c =
     let k = c.before in
     let i = inside c.before.before.before.before.before.before.before.before.before in

@@ -9,15 +9,15 @@ use lib.Dec.{eqb}
 use borrow.Author.Rules.{rules}
 use Rattle.schema.specs.Rows.{byte_of}
 use Rattle.packing.specs.declared.PackKind.{PackKind}
-use Rattle.packing.specs.Packing.{firstTable, tableAfter, inPlace}
+use Rattle.packing.specs.Packing.{first_table, table_after, in_place}
 use Rattle.packing.proofs.rules.in_place.Statement.{statement}
 use Rattle.packing.proofs.rules.in_place.Tie as tie
 
-first : (kind : PackKind) (p : List ℕ) (n t f : ℕ) → n ≡ 0 → t ≡ byte_of p n 0 → f ≡ firstTable kind → eqb t f ≡ inPlace kind p n
+first : (kind : PackKind) (p : List ℕ) (n t f : ℕ) → n ≡ 0 → t ≡ byte_of p n 0 → f ≡ first_table kind → eqb t f ≡ in_place kind p n
 first kind p zero t f z e g = rw (e, g)
 first kind p (suc n) t f z e g = absurd (omega arith)
 
-later : (kind : PackKind) (p : List ℕ) (n t u : ℕ) (r : Bool) → (n ≡ 0 → ⊥) → t ≡ byte_of p n 0 → u ≡ byte_of p (n - 1) 0 → r ≡ tableAfter kind u t → r ≡ inPlace kind p n
+later : (kind : PackKind) (p : List ℕ) (n t u : ℕ) (r : Bool) → (n ≡ 0 → ⊥) → t ≡ byte_of p n 0 → u ≡ byte_of p (n - 1) 0 → r ≡ table_after kind u t → r ≡ in_place kind p n
 later kind p zero t u r z e f g = absurd (z refl)
 later kind p (suc n) t u r z e f g =
     let m : suc n - 1 ≡ n = omega arith in

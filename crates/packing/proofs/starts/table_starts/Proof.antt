@@ -4,7 +4,7 @@ use mathlib.Core.Bool.{false}
 use mathlib.Core.Path.{◌≡◌, refl}
 use native.Mathlib.Omega.{arith}
 use borrow.Author.Rules.{rules}
-use Rattle.packing.specs.Starts.{recordsOf, reaches}
+use Rattle.packing.specs.Starts.{records_of, reaches}
 use Rattle.packing.proofs.TableStarts.{Fixed, fixed-none, fixed-turn, fixed-move, fixed-all, not-reached}
 use Rattle.packing.proofs.starts.table_starts.Statement.{statement}
 use Rattle.packing.proofs.starts.table_starts.Tie as tie
@@ -13,7 +13,7 @@ abbrev invariant-loop : tie.invariant-loop
 invariant-loop p rows records starts₀ t₀ k₀ starts t k = Fixed p rows starts t k
 
 abbrev decreases-loop : tie.decreases-loop
-decreases-loop p rows records starts₀ t₀ k₀ starts t k = recordsOf p - k
+decreases-loop p rows records starts₀ t₀ k₀ starts t k = records_of p - k
 
 -- the starts that record k reaches are fixed
 fixed : (c : tie.After-fix-starts invariant-loop decreases-loop) → Fixed c.before.before.before.before.before.before.args.p.now c.before.before.before.before.before.before.args.rows c.fix-starts.new.0 c.fix-starts.result c.before.before.before.loop.k

@@ -42,7 +42,7 @@ use denote.Triple.Table.{entered, cited}
 use denote.Triple.Walked.{says, Stays, stay_none, walk_of, Goes-none, Walks, ends_at, walked, walk_Meets}
 use denote.Exit.{yes}
 use denote.Triple.Clauses.{ensured, lasts}
-use Rattle.packing.specs.Records.{recordAt}
+use Rattle.packing.specs.Records.{record_at}
 use Rattle.packing.specs.declared.walker.RecordWalker.{RecordWalker}
 use Rattle.packing.specs.declared.walker.Record.{Record}
 use Rattle.packing.specs.contracts.walker.RecordWalker as T
@@ -81,7 +81,7 @@ module _ {M : Type 1} {𝓤 : Ura M} (𝓛 : Logic 𝓤) (mem : Memory → SProp
   v = slice_val d.pack.ref_ptr (length d.pack.now)
 
   abbrev found : Record
-  found = recordAt d.pack.now d.place
+  found = record_at d.pack.now d.place
 
   abbrev Post : Val → SProp 𝓤
   Post = (walk_of 𝓛 current.ended stayed (current.clauses 𝓛 mem run)).post (((κ, tt), (q, tt), tt, (d, tt), (mach ∷ [], tt)), tt)

@@ -45,7 +45,7 @@ use denote.Triple.Entry.{on_entry}
 use denote.Triple.Spec.{Meets, triple_of}
 use denote.Triple.Table.{entered, cited}
 use denote.Triple.Walked.{says, Stays, stay_ref, walk_of, Goes-ref, Walks, ends_at, walked, walk_Meets}
-use Rattle.packing.specs.Records.{recordAt, next_of}
+use Rattle.packing.specs.Records.{record_at, next_of}
 use Rattle.packing.specs.declared.walker.RecordWalker.{RecordWalker}
 use Rattle.packing.specs.declared.walker.Record.{Record}
 use Rattle.packing.specs.contracts.walker.RecordWalker as T
@@ -108,7 +108,7 @@ module _ {M : Type 1} {𝓤 : Ura M} (𝓛 : Logic 𝓤) (at_mem : Memory → SP
   v = slice_val h.pack.ref_ptr (length h.pack.now)
 
   abbrev found : Record
-  found = recordAt h.pack.now h.place
+  found = record_at h.pack.now h.place
 
   abbrev next : ℕ
   next = next_of h.pack.now h.place

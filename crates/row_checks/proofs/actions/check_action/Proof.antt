@@ -1,11 +1,11 @@
 -- `row_checks::actions::check_action` meets its contract. Assumes nothing.
-use Rattle.row_checks.specs.Actions.{actionChecks}
+use Rattle.row_checks.specs.Actions.{action_checks}
 use borrow.Author.Rules.{rules}
 use Rattle.row_checks.proofs.actions.check_action.Statement.{statement}
 use Rattle.row_checks.proofs.actions.check_action.Tie as tie
 
 returns : tie.Need-returns
-unfolding actionChecks
+unfolding action_checks
 returns c = rw (← c.before.before.before.row_of.ensures.0, ← c.before.before.action-of.ensures, ← c.before.triggers-end-before.ensures) c.check-action-row.ensures
 
 pub check-action-spec : {M : Type 1} → statement M

@@ -5,12 +5,12 @@ use native.Mathlib.Omega.{arith}
 use borrow.Author.Rules.{rules}
 use Rattle.answers.proofs.Loops.{Remaining, loop-laws}
 use Rattle.checks.specs.Image.{image}
-use Rattle.row_checks.specs.Modes.{modeChecks}
+use Rattle.row_checks.specs.Modes.{mode_checks}
 use Rattle.row_checks.proofs.modes.check_modes.Statement.{statement}
 use Rattle.row_checks.proofs.modes.check_modes.Tie as tie
 
 abbrev invariant-loop : tie.invariant-loop
-invariant-loop p s rows i₀ i = Remaining (modeChecks (image p [] [] s 0)) i rows
+invariant-loop p s rows i₀ i = Remaining (mode_checks (image p [] [] s 0)) i rows
 
 abbrev decreases-loop : tie.decreases-loop
 decreases-loop p s rows i₀ i = rows - i

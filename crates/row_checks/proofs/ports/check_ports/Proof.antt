@@ -5,12 +5,12 @@ use native.Mathlib.Omega.{arith}
 use borrow.Author.Rules.{rules}
 use Rattle.answers.proofs.Loops.{Remaining, loop-laws}
 use Rattle.checks.specs.Image.{image}
-use Rattle.row_checks.specs.Ports.{portChecks}
+use Rattle.row_checks.specs.Ports.{port_checks}
 use Rattle.row_checks.proofs.ports.check_ports.Statement.{statement}
 use Rattle.row_checks.proofs.ports.check_ports.Tie as tie
 
 abbrev invariant-loop : tie.invariant-loop
-invariant-loop p s rows i₀ i = Remaining (portChecks (image p [] [] s 0)) i rows
+invariant-loop p s rows i₀ i = Remaining (port_checks (image p [] [] s 0)) i rows
 
 abbrev decreases-loop : tie.decreases-loop
 decreases-loop p s rows i₀ i = rows - i

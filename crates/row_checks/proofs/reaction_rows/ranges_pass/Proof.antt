@@ -19,10 +19,10 @@ returns c =
     let h = both _ _ e in
     let x = both _ _ h.0 in
     let y = both _ _ h.1 in
-    skip (fits-passes rows 5 i field.usePorts 9 c.before.before.before.before.before.before.before.before.before.range-fits.ensures c.before.before.before.before.before.before.before.before.before.before.rows_of_lem.ensures x.0) refl
-    (skip (fits-passes rows 5 i field.effectPorts 10 c.before.before.before.before.before.before.range-fits2.ensures c.before.before.before.before.before.before.before.rows-of2.ensures x.1) refl
+    skip (fits-passes rows 5 i field.use_ports 9 c.before.before.before.before.before.before.before.before.before.range-fits.ensures c.before.before.before.before.before.before.before.before.before.before.rows_of_lem.ensures x.0) refl
+    (skip (fits-passes rows 5 i field.effect_ports 10 c.before.before.before.before.before.before.range-fits2.ensures c.before.before.before.before.before.before.before.rows-of2.ensures x.1) refl
     (skip (fits-passes rows 5 i field.actions 11 c.before.before.before.range-fits3.ensures c.before.before.before.before.rows-of3.ensures y.0) refl
-    (fits-passes rows 5 i field.enabledModes 12 c.range-fits4.ensures c.before.rows-of4.ensures y.1)))))
+    (fits-passes rows 5 i field.enabled_modes 12 c.range-fits4.ensures c.before.rows-of4.ensures y.1)))))
 
 pub ranges-pass-spec : {M : Type 1} → statement M
 ranges-pass-spec =

@@ -3,13 +3,13 @@ use mathlib.Core.Path.{refl}
 use borrow.Author.Tests.{not-false}
 use Rattle.answers.proofs.Laws.{skip}
 use Rattle.answers.proofs.Quick.{unsure, sure, surely}
-use Rattle.row_checks.specs.Reactions.{reactionChecks}
+use Rattle.row_checks.specs.Reactions.{reaction_checks}
 use borrow.Author.Rules.{rules}
 use Rattle.row_checks.proofs.reaction_rows.reaction_passes.Statement.{statement}
 use Rattle.row_checks.proofs.reaction_rows.reaction_passes.Tie as tie
 
 returns-3 : tie.Need-returns-3
-unfolding reactionChecks
+unfolding reaction_checks
 returns-3 c =
     sure (λ e.
     skip (surely c.before.before.before.before.owner-passes.ensures (not-false _ c.before.before.before.if1.false)) refl

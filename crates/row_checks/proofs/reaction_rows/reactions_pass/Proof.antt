@@ -5,20 +5,20 @@ use native.Mathlib.Omega.{arith}
 use borrow.Author.Rules.{rules}
 use Rattle.answers.proofs.Loops.{Keeping, keeping_start, keeping-quick, quick-none}
 use Rattle.answers.proofs.Quick.{unsure}
-use Rattle.checks.specs.Image.{image, reactionsAt}
-use Rattle.row_checks.specs.Reactions.{reactionEndsBefore, reactionChecks}
+use Rattle.checks.specs.Image.{image, reactions_at}
+use Rattle.row_checks.specs.Reactions.{reaction_ends_before, reaction_checks}
 use Rattle.row_checks.proofs.reaction_rows.reactions_pass.Statement.{statement}
 use Rattle.row_checks.proofs.reaction_rows.reactions_pass.Tie as tie
 
 abbrev invariant-loop : tie.invariant-loop
 invariant-loop p s rows previous₀ i₀ previous i =
-    Keeping (reactionChecks (image p [] [] s 0)) (reactionEndsBefore (reactionsAt p s)) rows i previous
+    Keeping (reaction_checks (image p [] [] s 0)) (reaction_ends_before (reactions_at p s)) rows i previous
 
 abbrev decreases-loop : tie.decreases-loop
 decreases-loop p s rows previous₀ i₀ previous i = rows - i
 
 loop-holds : tie.Need-loop-init invariant-loop decreases-loop
-unfolding reactionEndsBefore
+unfolding reaction_ends_before
 loop-holds c = keeping_start _ _ c.no-ends.ensures
 
 pub reactions-pass-spec : {M : Type 1} → statement M

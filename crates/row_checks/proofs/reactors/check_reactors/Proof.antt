@@ -5,12 +5,12 @@ use native.Mathlib.Omega.{arith}
 use borrow.Author.Rules.{rules}
 use Rattle.answers.proofs.Loops.{Remaining, loop-laws}
 use Rattle.checks.specs.Image.{image}
-use Rattle.row_checks.specs.Reactors.{reactorChecks}
+use Rattle.row_checks.specs.Reactors.{reactor_checks}
 use Rattle.row_checks.proofs.reactors.check_reactors.Statement.{statement}
 use Rattle.row_checks.proofs.reactors.check_reactors.Tie as tie
 
 abbrev invariant-loop : tie.invariant-loop
-invariant-loop p s n rows i₀ i = Remaining (reactorChecks (image p [] [] s n)) i rows
+invariant-loop p s n rows i₀ i = Remaining (reactor_checks (image p [] [] s n)) i rows
 
 abbrev decreases-loop : tie.decreases-loop
 decreases-loop p s n rows i₀ i = rows - i

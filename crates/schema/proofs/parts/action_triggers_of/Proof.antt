@@ -1,11 +1,11 @@
 -- `schema::parts::action_triggers_of` meets its contract. Assumes nothing.
-use Rattle.schema.specs.Rows.{actionAt}
+use Rattle.schema.specs.Rows.{action_at}
 use borrow.Author.Rules.{rules}
 use Rattle.schema.proofs.parts.action_triggers_of.Statement.{statement}
 use Rattle.schema.proofs.parts.action_triggers_of.Tie as tie
 
 returns : tie.Need-returns
-unfolding actionAt
+unfolding action_at
 returns c = simp c.range-of.ensures
 
 pub action-triggers-of-spec : {M : Type 1} → statement M

@@ -1,11 +1,11 @@
 -- `schema::parts::lifecycle_action_at` meets its contract. Assumes nothing.
-use Rattle.schema.specs.Rows.{lifecycleAt}
+use Rattle.schema.specs.Rows.{lifecycle_at}
 use borrow.Author.Rules.{rules}
 use Rattle.schema.proofs.parts.lifecycle_action_at.Statement.{statement}
 use Rattle.schema.proofs.parts.lifecycle_action_at.Tie as tie
 
 returns : tie.Need-returns
-unfolding lifecycleAt
+unfolding lifecycle_at
 returns c = simp c.word_at.ensures
 
 pub lifecycle-action-at-spec : {M : Type 1} → statement M

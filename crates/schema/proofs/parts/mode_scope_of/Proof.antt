@@ -1,11 +1,11 @@
 -- `schema::parts::mode_scope_of` meets its contract. Assumes nothing.
-use Rattle.schema.specs.Rows.{modeAt}
+use Rattle.schema.specs.Rows.{mode_at}
 use borrow.Author.Rules.{rules}
 use Rattle.schema.proofs.parts.mode_scope_of.Statement.{statement}
 use Rattle.schema.proofs.parts.mode_scope_of.Tie as tie
 
 returns : tie.Need-returns
-unfolding modeAt
+unfolding mode_at
 returns c = simp c.word_of.ensures
 
 pub mode-scope-of-spec : {M : Type 1} → statement M

@@ -1,11 +1,11 @@
 -- `schema::parts::reaction_reactor_of` meets its contract. Assumes nothing.
-use Rattle.schema.specs.Rows.{reactionAt}
+use Rattle.schema.specs.Rows.{reaction_at}
 use borrow.Author.Rules.{rules}
 use Rattle.schema.proofs.parts.reaction_reactor_of.Statement.{statement}
 use Rattle.schema.proofs.parts.reaction_reactor_of.Tie as tie
 
 returns : tie.Need-returns
-unfolding reactionAt
+unfolding reaction_at
 returns c = simp c.word_of.ensures
 
 pub reaction-reactor-of-spec : {M : Type 1} → statement M

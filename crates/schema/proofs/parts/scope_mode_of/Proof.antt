@@ -1,11 +1,11 @@
 -- `schema::parts::scope_mode_of` meets its contract. Assumes nothing.
-use Rattle.schema.specs.Rows.{scopeAt}
+use Rattle.schema.specs.Rows.{scope_at}
 use borrow.Author.Rules.{rules}
 use Rattle.schema.proofs.parts.scope_mode_of.Statement.{statement}
 use Rattle.schema.proofs.parts.scope_mode_of.Tie as tie
 
 returns : tie.Need-returns
-unfolding scopeAt
+unfolding scope_at
 returns c = simp (c.maybe-mode.ensures, c.before.word_of.ensures, c.before.before.bit.ensures, c.before.before.before.byte_of.ensures)
 
 pub scope-mode-of-spec : {M : Type 1} → statement M

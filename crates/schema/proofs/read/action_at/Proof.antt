@@ -5,17 +5,17 @@ use lib.ListN.{length}
 use native.Mathlib.Omega.{arith}
 use mathlib.Core.Path.{◌∙◌}
 use Prim.Native.Nat.{◌*◌, ◌≤◌}
-use Rattle.schema.specs.Rows.{actionOf, actionAt}
+use Rattle.schema.specs.Rows.{action_of, action_at}
 use borrow.Author.Rules.{rules}
 use Rattle.schema.proofs.read.action_at.Statement.{statement}
 use Rattle.schema.proofs.read.action_at.Tie as tie
 
 returns : tie.Need-returns
-unfolding actionAt
+unfolding action_at
 returns c =
     let a = c.before.before.before.args in
     let h : length a.p.now ≤ a.n * 64 = omega arith in
-    c.empty.ensures ∙ row-past actionOf layout.actions a.p.now a.n h
+    c.empty.ensures ∙ row-past action_of layout.actions a.p.now a.n h
 
 pub action-at-spec : {M : Type 1} → statement M
 action-at-spec =

@@ -5,20 +5,20 @@ use lib.ListN.{length}
 use native.Mathlib.Omega.{arith}
 use mathlib.Core.Path.{◌∙◌}
 use Prim.Native.Nat.{◌*◌, ◌≤◌}
-use Rattle.schema.specs.Rows.{enclaveOf, enclaveAt}
+use Rattle.schema.specs.Rows.{enclave_of, enclave_at}
 use borrow.Author.Rules.{rules}
 use Rattle.schema.proofs.read.enclave_at.Statement.{statement}
 use Rattle.schema.proofs.read.enclave_at.Tie as tie
 
 returns : tie.Need-returns
-unfolding enclaveAt
+unfolding enclave_at
 returns c =
     let a = c.before.before.before.args in
     let h : length a.p.now ≤ a.n * 64 = omega arith in
-    c.empty.ensures ∙ row-past enclaveOf layout.enclave a.p.now a.n h
+    c.empty.ensures ∙ row-past enclave_of layout.enclave a.p.now a.n h
 
 returns-2 : tie.Need-returns-2
-unfolding enclaveAt
+unfolding enclave_at
 returns-2 c = simp (c.long-of3.ensures, c.before.long-of2.ensures, c.before.before.Long-of.ensures, c.before.before.before.word-of3.ensures, c.before.before.before.before.word-of2.ensures, c.before.before.before.before.before.word_of.ensures, c.before.before.before.before.before.before.place_of.ensures, c.before.before.before.before.before.before.before.bit.ensures, c.before.before.before.before.before.before.before.before.byte_of.ensures)
 
 pub enclave-at-spec : {M : Type 1} → statement M

@@ -5,20 +5,20 @@ use lib.ListN.{length}
 use native.Mathlib.Omega.{arith}
 use mathlib.Core.Path.{◌∙◌}
 use Prim.Native.Nat.{◌*◌, ◌≤◌}
-use Rattle.schema.specs.Rows.{federateOf, federateAt}
+use Rattle.schema.specs.Rows.{federate_of, federate_at}
 use borrow.Author.Rules.{rules}
 use Rattle.schema.proofs.read.federate_at.Statement.{statement}
 use Rattle.schema.proofs.read.federate_at.Tie as tie
 
 returns : tie.Need-returns
-unfolding federateAt
+unfolding federate_at
 returns c =
     let a = c.before.before.before.args in
     let h : length a.p.now ≤ a.n * 64 = omega arith in
-    c.empty.ensures ∙ row-past federateOf layout.federate a.p.now a.n h
+    c.empty.ensures ∙ row-past federate_of layout.federate a.p.now a.n h
 
 returns-2 : tie.Need-returns-2
-unfolding federateAt
+unfolding federate_at
 returns-2 c = simp (c.long-of2.ensures, c.before.Long-of.ensures, c.before.before.place-of3.ensures, c.before.before.before.bit3.ensures, c.before.before.before.before.place-of2.ensures, c.before.before.before.before.before.bit2.ensures, c.before.before.before.before.before.before.place_of.ensures, c.before.before.before.before.before.before.before.bit.ensures, c.before.before.before.before.before.before.before.before.byte_of.ensures)
 
 pub federate-at-spec : {M : Type 1} → statement M

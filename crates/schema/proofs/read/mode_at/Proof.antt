@@ -5,13 +5,13 @@ use lib.ListN.{length}
 use native.Mathlib.Omega.{arith}
 use mathlib.Core.Path.{◌∙◌}
 use Prim.Native.Nat.{◌*◌, ◌≤◌}
-use Rattle.schema.specs.Rows.{mode_of, modeAt}
+use Rattle.schema.specs.Rows.{mode_of, mode_at}
 use borrow.Author.Rules.{rules}
 use Rattle.schema.proofs.read.mode_at.Statement.{statement}
 use Rattle.schema.proofs.read.mode_at.Tie as tie
 
 returns : tie.Need-returns
-unfolding modeAt
+unfolding mode_at
 returns c =
     let a = c.before.before.before.args in
     let h : length a.p.now ≤ a.n * 64 = omega arith in

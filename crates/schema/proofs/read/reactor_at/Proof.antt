@@ -5,17 +5,17 @@ use lib.ListN.{length}
 use native.Mathlib.Omega.{arith}
 use mathlib.Core.Path.{◌∙◌}
 use Prim.Native.Nat.{◌*◌, ◌≤◌}
-use Rattle.schema.specs.Rows.{reactorOf, reactorAt}
+use Rattle.schema.specs.Rows.{reactor_of, reactor_at}
 use borrow.Author.Rules.{rules}
 use Rattle.schema.proofs.read.reactor_at.Statement.{statement}
 use Rattle.schema.proofs.read.reactor_at.Tie as tie
 
 returns : tie.Need-returns
-unfolding reactorAt
+unfolding reactor_at
 returns c =
     let a = c.before.before.before.args in
     let h : length a.p.now ≤ a.n * 64 = omega arith in
-    c.empty.ensures ∙ row-past reactorOf layout.reactors a.p.now a.n h
+    c.empty.ensures ∙ row-past reactor_of layout.reactors a.p.now a.n h
 
 pub reactor-at-spec : {M : Type 1} → statement M
 reactor-at-spec =

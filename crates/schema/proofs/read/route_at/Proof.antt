@@ -5,20 +5,20 @@ use lib.ListN.{length}
 use native.Mathlib.Omega.{arith}
 use mathlib.Core.Path.{◌∙◌}
 use Prim.Native.Nat.{◌*◌, ◌≤◌}
-use Rattle.schema.specs.Rows.{routeOf, routeAt}
+use Rattle.schema.specs.Rows.{route_of, route_at}
 use borrow.Author.Rules.{rules}
 use Rattle.schema.proofs.read.route_at.Statement.{statement}
 use Rattle.schema.proofs.read.route_at.Tie as tie
 
 returns : tie.Need-returns
-unfolding routeAt
+unfolding route_at
 returns c =
     let a = c.before.before.before.args in
     let h : length a.p.now ≤ a.n * 64 = omega arith in
-    c.empty.ensures ∙ row-past routeOf layout.routes a.p.now a.n h
+    c.empty.ensures ∙ row-past route_of layout.routes a.p.now a.n h
 
 returns-2 : tie.Need-returns-2
-unfolding routeAt
+unfolding route_at
 returns-2 c = simp (c.Long-of.ensures, c.before.domain-of.ensures, c.before.before.bit3.ensures, c.before.before.before.direction-of.ensures, c.before.before.before.before.bit2.ensures, c.before.before.before.before.before.word_of.ensures, c.before.before.before.before.before.before.place_of.ensures, c.before.before.before.before.before.before.before.bit.ensures, c.before.before.before.before.before.before.before.before.byte-of2.ensures, c.before.before.before.before.before.before.before.before.before.byte_of.ensures)
 
 pub route-at-spec : {M : Type 1} → statement M

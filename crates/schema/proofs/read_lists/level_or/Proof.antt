@@ -6,23 +6,23 @@ use lib.ListN.{length}
 use native.Mathlib.Omega.{arith}
 use mathlib.Core.Path.{◌∙◌}
 use Prim.Native.Nat.{◌*◌, ◌≤◌}
-use Rattle.schema.specs.Rows.{levelOf, levelAt}
+use Rattle.schema.specs.Rows.{level_of, level_at}
 use borrow.Author.Rules.{rules}
 use Rattle.schema.proofs.read_lists.level_or.Statement.{statement}
 use Rattle.schema.proofs.read_lists.level_or.Tie as tie
 
 returns : tie.Need-returns
-unfolding levelAt
+unfolding level_at
 returns c =
     let w = c.before.words_inside.ensures in
     simp (c.level-of.ensures, w.first, second_at _ 4 w)
 
 returns-2 : tie.Need-returns-2
-unfolding levelAt
+unfolding level_at
 returns-2 c =
     let a = c.before.before.args in
     let h : length a.p.now ≤ a.n * 64 = omega arith in
-    c.before.before.requires.1 ∙ row-past levelOf layout.levels a.p.now a.n h
+    c.before.before.requires.1 ∙ row-past level_of layout.levels a.p.now a.n h
 
 pub level-or-spec : {M : Type 1} → statement M
 level-or-spec =

@@ -6,23 +6,23 @@ use lib.ListN.{length}
 use native.Mathlib.Omega.{arith}
 use mathlib.Core.Path.{◌∙◌}
 use Prim.Native.Nat.{◌*◌, ◌≤◌}
-use Rattle.schema.specs.Rows.{lifecycleOf, lifecycleAt}
+use Rattle.schema.specs.Rows.{lifecycle_of, lifecycle_at}
 use borrow.Author.Rules.{rules}
 use Rattle.schema.proofs.read_lists.lifecycle_or.Statement.{statement}
 use Rattle.schema.proofs.read_lists.lifecycle_or.Tie as tie
 
 returns : tie.Need-returns
-unfolding lifecycleAt
+unfolding lifecycle_at
 returns c =
     let w = c.before.before.words_inside.ensures in
     simp (c.lifecycle-of.ensures, c.before.word-inside.ensures, w.first, second_at _ 4 w)
 
 returns-2 : tie.Need-returns-2
-unfolding lifecycleAt
+unfolding lifecycle_at
 returns-2 c =
     let a = c.before.before.args in
     let h : length a.p.now ≤ a.n * 64 = omega arith in
-    c.before.before.requires.1 ∙ row-past lifecycleOf layout.lifecycles a.p.now a.n h
+    c.before.before.requires.1 ∙ row-past lifecycle_of layout.lifecycles a.p.now a.n h
 
 pub lifecycle-or-spec : {M : Type 1} → statement M
 lifecycle-or-spec =

@@ -45,7 +45,7 @@ use denote.Triple.Walked.{says, needs, Stays, stay_ref, stay_none, stay_none_ref
 use Rattle.schema.specs.Rows.{Whole}
 use Rattle.checks.specs.Image.{image, Rising, Within}
 use Rattle.scope_checks.specs.Ends.{Moves}
-use Rattle.scope_checks.specs.Scopes.{scopeRowChecks}
+use Rattle.scope_checks.specs.Scopes.{scope_row_checks}
 use Rattle.answers.specs.declared.Outcome.{Outcome}
 use Rattle.schema.specs.declared.rows.ScopeImage.{ScopeImage}
 use Rattle.scope_checks.specs.declared.ends.ScopeEnds.{ScopeEnds}
@@ -118,7 +118,7 @@ module _ {M : Type 1} {𝓤 : Ura M} (𝓛 : Logic 𝓤) (at_mem : Memory → SP
 
   -- what `moved_row` says of its answer
   abbrev Said : Outcome → ScopeEnds → Type 0
-  Said r e = Moves (scopeRowChecks (image p.now [] [] s.now 0) i w h) w h e r
+  Said r e = Moves (scope_row_checks (image p.now [] [] s.now 0) i w h) w h e r
 
   -- what whoever holds an answer knows of its two fields
   ends-are : (r : EndsAnswer) (u : Val) → Is N.the_row r (u ∷ []) → Is E.the_row r.ends (LL.vals E.the_type E'.the_laws r.ends)

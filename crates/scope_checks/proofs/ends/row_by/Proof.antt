@@ -47,7 +47,7 @@ use denote.Triple.Walked.{says, needs, Stays, stay_none, stay_none_ref, stay_non
 use Rattle.schema.specs.Rows.{Whole}
 use Rattle.checks.specs.Image.{image, Rising, Within}
 use Rattle.scope_checks.specs.Ends.{Moves}
-use Rattle.scope_checks.specs.Scopes.{scopeRowChecks}
+use Rattle.scope_checks.specs.Scopes.{scope_row_checks}
 use Rattle.answers.specs.declared.Outcome.{Outcome}
 use Rattle.schema.specs.declared.rows.ScopeImage.{ScopeImage}
 use Rattle.scope_checks.specs.declared.ends.ScopeEnds.{ScopeEnds}
@@ -142,7 +142,7 @@ module _ {M : Type 1} {𝓤 : Ura M} (𝓛 : Logic 𝓤) (at_mem : Memory → SP
 
   -- what `check_scope_row` says of its answer and of the last ends
   abbrev Said : Outcome → ScopeEnds → Type 0
-  Said r e = Moves (scopeRowChecks (image p.now [] [] s.now 0) i w h) w h e r
+  Said r e = Moves (scope_row_checks (image p.now [] [] s.now 0) i w h) w h e r
 
   exits : (d : EndsAnswer) → Is N.the_row d (vn d ∷ []) → Is u32 i (vint w32 i ∷ []) → Is R.the_row w (vw ∷ []) → Is E.the_row h (ve h ∷ []) → Said d.answer d.ends
       → ent 𝓤 (⋆ 𝓛 (‵ (flft κs qs) ∷ ‵ (flft κp qp) ∷ ‵ OwnP ∷ ‵ OwnS ∷ [])) (Post (vn d))

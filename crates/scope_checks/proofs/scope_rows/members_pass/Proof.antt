@@ -5,13 +5,13 @@ use Rattle.answers.proofs.Laws.{skip}
 use Rattle.answers.proofs.Quick.{sure, both}
 use Rattle.checks.specs.Image.{rows_of}
 use Rattle.checks.proofs.RangeLaws.{fits-passes}
-use Rattle.scope_checks.specs.Ends.{memberRangeChecks}
+use Rattle.scope_checks.specs.Ends.{member_range_checks}
 use borrow.Author.Rules.{rules}
 use Rattle.scope_checks.proofs.scope_rows.members_pass.Statement.{statement}
 use Rattle.scope_checks.proofs.scope_rows.members_pass.Tie as tie
 
 returns : tie.Need-returns
-unfolding memberRangeChecks
+unfolding member_range_checks
 returns c =
     let a = c.before.before.before.before.before.before.before.before.before.before.before.args in
     let rows = rows_of a.s.now in
@@ -21,8 +21,8 @@ returns c =
     let x = both _ _ e in
     let y = both _ _ x.1 in
     skip (fits-passes rows 7 i field.descendants 13 c.before.before.before.before.before.before.range-fits.ensures c.before.before.before.before.before.before.before.rows_of_lem.ensures x.0) refl
-    (skip (fits-passes rows 7 i field.logicalActions 14 c.before.before.before.range-fits2.ensures c.before.before.before.before.rows-of2.ensures y.0) refl
-    (fits-passes rows 7 i field.timerStartups 15 c.range-fits3.ensures c.before.rows-of3.ensures y.1))))
+    (skip (fits-passes rows 7 i field.logical_actions 14 c.before.before.before.range-fits2.ensures c.before.before.before.before.rows-of2.ensures y.0) refl
+    (fits-passes rows 7 i field.timer_startups 15 c.range-fits3.ensures c.before.rows-of3.ensures y.1))))
 
 pub members-pass-spec : {M : Type 1} → statement M
 members-pass-spec =

@@ -5,13 +5,13 @@ use Rattle.answers.proofs.Laws.{skip}
 use Rattle.answers.proofs.Quick.{sure, both}
 use Rattle.checks.specs.Image.{rows_of}
 use Rattle.checks.proofs.RangeLaws.{fits-passes}
-use Rattle.scope_checks.specs.Ends.{reactionRangeChecks}
+use Rattle.scope_checks.specs.Ends.{reaction_range_checks}
 use borrow.Author.Rules.{rules}
 use Rattle.scope_checks.proofs.scope_rows.reactions_pass.Statement.{statement}
 use Rattle.scope_checks.proofs.scope_rows.reactions_pass.Tie as tie
 
 returns : tie.Need-returns
-unfolding reactionRangeChecks
+unfolding reaction_range_checks
 returns c =
     let a = c.before.before.before.before.before.before.before.before.before.before.before.args in
     let rows = rows_of a.s.now in
@@ -20,9 +20,9 @@ returns c =
     (sure (λ e.
     let x = both _ _ e in
     let y = both _ _ x.1 in
-    skip (fits-passes rows 7 i field.resetReactions 16 c.before.before.before.before.before.before.range-fits.ensures c.before.before.before.before.before.before.before.rows_of_lem.ensures x.0) refl
-    (skip (fits-passes rows 7 i field.startupReactions 17 c.before.before.before.range-fits2.ensures c.before.before.before.before.rows-of2.ensures y.0) refl
-    (fits-passes rows 7 i field.shutdownReactions 18 c.range-fits3.ensures c.before.rows-of3.ensures y.1))))
+    skip (fits-passes rows 7 i field.reset_reactions 16 c.before.before.before.before.before.before.range-fits.ensures c.before.before.before.before.before.before.before.rows_of_lem.ensures x.0) refl
+    (skip (fits-passes rows 7 i field.startup_reactions 17 c.before.before.before.range-fits2.ensures c.before.before.before.before.rows-of2.ensures y.0) refl
+    (fits-passes rows 7 i field.shutdown_reactions 18 c.range-fits3.ensures c.before.rows-of3.ensures y.1))))
 
 pub reactions-pass-spec : {M : Type 1} → statement M
 reactions-pass-spec =

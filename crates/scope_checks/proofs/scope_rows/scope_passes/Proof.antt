@@ -3,13 +3,13 @@ use mathlib.Core.Path.{refl}
 use borrow.Author.Tests.{not-false}
 use Rattle.answers.proofs.Laws.{skip}
 use Rattle.answers.proofs.Quick.{unsure, sure, surely}
-use Rattle.scope_checks.specs.Scopes.{scopeRowChecks, scopeChecks}
+use Rattle.scope_checks.specs.Scopes.{scope_row_checks, scope_checks}
 use borrow.Author.Rules.{rules}
 use Rattle.scope_checks.proofs.scope_rows.scope_passes.Statement.{statement}
 use Rattle.scope_checks.proofs.scope_rows.scope_passes.Tie as tie
 
 returns-3 : tie.Need-returns-3
-unfolding scopeRowChecks scopeChecks
+unfolding scope_row_checks scope_checks
 returns-3 c =
     rw (← c.before.before.before.before.before.before.requires.1.1.1)
     (sure (λ e.
