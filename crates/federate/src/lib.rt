@@ -1,3 +1,5 @@
+#![tactic(auto)]
+use answers::{Refusal};
 // The federate check: its own record, each enclave in turn, then the routes of all enclaves; the first check that fails decides.
 pub mod check;
 pub mod enclaves;
@@ -7,10 +9,9 @@ pub mod route_faults;
 pub mod route_pairs;
 pub mod route_sort;
 
-use answers::Refusal;
 
 // What the check of a federate answers.
-#[derive(Drop)]
+#[derive(Clone, Copy)]
 pub enum FederateAnswer {
     Accepted { enclaves: u32, links: u64 },
     Refused(Refusal),

@@ -1,3 +1,4 @@
+#![tactic(auto)]
 // The text of an identity: its scalars, whether it is valid, the part of a text that it names, the order by byte.
 pub mod compare;
 pub mod decode;
@@ -5,7 +6,7 @@ pub mod place;
 pub mod scan;
 
 // The place of an identity: which lent text, where it starts, how long it is.
-#[derive(Drop)]
+#[derive(Clone, Copy)]
 pub struct IdentityPlace {
     pub house: bool,
     pub start: u32,
@@ -13,7 +14,7 @@ pub struct IdentityPlace {
 }
 
 // The order of two texts by byte.
-#[derive(Drop)]
+#[derive(Clone, Copy)]
 pub enum ByteOrder {
     Less,
     Equal,

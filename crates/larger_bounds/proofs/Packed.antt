@@ -11,7 +11,7 @@ use borrow.Author.Tests.{ltb-false, eqb-true}
 use Rattle.schema.specs.Rows.{byte_of}
 use Rattle.packing.specs.declared.PackKind.TheVariants.{Enclave, Federate}
 use Rattle.packing.specs.Starts.{records_of}
-use Rattle.packing.proofs.Packed.{fits, in_place, rows_above}
+use Rattle.packing.proofs.Packed.{fits, placed-at, rows_above}
 use Rattle.larger_bounds.specs.Packs.{Packed}
 use Rattle.larger_bounds.specs.Federates.{FederatePacked}
 
@@ -26,7 +26,7 @@ module _ (p batch house : List ℕ) (h : Packed p batch house) where
 
   -- record 0 is the enclave's
   pub enclave-first : 0 < length p / 64 → byte_of p 0 0 ≡ 1
-  enclave-first l = eqb-true (byte_of p 0 0) 1 (in_place Enclave p batch house h 0 l)
+  enclave-first l = eqb-true (byte_of p 0 0) 1 (placed-at Enclave p batch house h 0 l)
 
   pub past-zero : (n : ℕ) → length p / 64 ≤ n → byte_of p n 0 ≡ 0
   past-zero n l = get_or-eq_default p 0 (let f = fits Enclave p batch house h in omega arith)
@@ -46,4 +46,4 @@ module _ (p batch house : List ℕ) (h : Packed p batch house) where
 pub federate-first : (p batch house : List ℕ) → FederatePacked p batch house → byte_of p 0 0 ≡ 0
 federate-first p batch house h =
     let f = fits Federate p batch house h in
-    eqb-true (byte_of p 0 0) 0 (in_place Federate p batch house h 0 (omega arith))
+    eqb-true (byte_of p 0 0) 0 (placed-at Federate p batch house h 0 (omega arith))

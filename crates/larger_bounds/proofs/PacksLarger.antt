@@ -28,9 +28,9 @@ use Rattle.larger_bounds.proofs.Packed.{one-enclave, has-enclave}
 use Rattle.larger_bounds.proofs.SamePacks.{in_tables, starts-same, image-same}
 
 -- the checks look at no list but those of the tables
-in_tables : (m : Image) → enclave_checks (in_tables m) ≡ enclave_checks m
+in-tables-same : (m : Image) → enclave_checks (in_tables m) ≡ enclave_checks m
 unfolding enclave_checks checks_of pass_checks passes row_passes list_passes reactor_checks action_checks port_checks reaction_checks mode_checks scope_checks scope_row_checks level_checks lifecycle_checks levels_checks lifecycles_checks action_trigger_checks port_trigger_checks enabled_modes_checks scope_list_checks shutdown_action_checks route_checks binding_id_checks
-in_tables m = refl
+in-tables-same m = refl
 
 -- a slot refusal of the checks is one of the answer
 slot-answer : (m : Image) → SlotRefusal (first (enclave_checks m)) → SlotAnswer (image_answer m)
@@ -45,12 +45,12 @@ module _ (p q batch house : List ℕ) (d : DifferInStorage p q) (single : (n : �
   checks-same : enclave_checks (pack_image q batch house) ≡ enclave_checks (with_bounds (in_tables m) (state_bound q 0) (action_bound q 0))
   checks-same =
       ap (λ x. enclave_checks (image q batch house x 0)) (starts-same p q d 1)
-      ∙ sym (in_tables (image q batch house (table_starts p 1) 0))
+      ∙ sym (in-tables-same (image q batch house (table_starts p 1) 0))
       ∙ ap enclave_checks (image-same p q d batch house single)
 
   -- the checks of the one with the larger bounds are looser
   pub pack-looser : state_bound p 0 ≤ state_bound q 0 → action_bound p 0 ≤ action_bound q 0 → Looser (enclave_checks m) (enclave_checks (pack_image q batch house))
-  pack-looser h g = rw (checks-same, ← in_tables m) (enclave-looser (in_tables m) (state_bound q 0) (action_bound q 0) h g)
+  pack-looser h g = rw (checks-same, ← in-tables-same m) (enclave-looser (in_tables m) (state_bound q 0) (action_bound q 0) h g)
 
   pub pack-links : links (pack_image q batch house) ≡ links m
   pack-links =

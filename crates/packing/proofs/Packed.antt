@@ -51,9 +51,9 @@ module _ (kind : PackKind) (p batch house : List ℕ) (h : first (packing_checks
       let b = both (leb (length p) 4194304) _ a.1 in
       record { some = ltb-true 0 (length p) a.0; few = leb-true (length p) 4194304 b.0; whole = eqb-true (length p % 64) 0 b.1 }
 
-  pub in_place : (n : ℕ) → n < length p / 64 → in_place kind p n ≡ true
+  pub placed-at : (n : ℕ) → n < length p / 64 → in_place kind p n ≡ true
   unfolding packing_checks record_checks
-  in_place n l =
+  placed-at n l =
       let rest = (passed_first _ _ _ (passed_first _ _ _ (passed_first _ _ _ h).1).1).1 in
       (passed_first _ _ _ (passed-run (record_checks kind p batch house) 0 (length p / 64) rest n (omega arith) (omega arith))).0
 
@@ -61,7 +61,7 @@ module _ (p batch house : List ℕ) (h : first (packing_checks Enclave p batch h
   -- from record 1 on, the tables are 2 or above, and rise
   pub rows_above : (n : ℕ) → suc n < length p / 64 → (2 ≤ byte_of p (suc n) 0) × (byte_of p n 0 ≤ byte_of p (suc n) 0)
   rows_above n l =
-      let e = both (leb 2 (byte_of p (suc n) 0)) _ (in_place Enclave p batch house h (suc n) l) in
+      let e = both (leb 2 (byte_of p (suc n) 0)) _ (placed-at Enclave p batch house h (suc n) l) in
       (leb-true 2 (byte_of p (suc n) 0) e.0, leb-true (byte_of p n 0) (byte_of p (suc n) 0) (both (ltb (byte_of p (suc n) 0) (length layouts)) _ e.1).1)
 
   pub rise : (j k : ℕ) → j ≤ k → k < length p / 64 → byte_of p j 0 ≤ byte_of p k 0

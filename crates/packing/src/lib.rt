@@ -1,3 +1,4 @@
+#![tactic(auto)]
 // The packing rules of a pack, record by record, and where each table of an enclave begins.
 pub mod clean;
 pub mod rows;
@@ -6,7 +7,7 @@ pub mod shape;
 pub mod starts;
 pub mod walker;
 
-#[derive(Drop)]
+#[derive(Clone, Copy)]
 pub enum PackKind {
     Enclave,
     Federate,

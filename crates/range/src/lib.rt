@@ -1,33 +1,35 @@
 // Slice ranges and index spans: where each ends, and whether a span holds a key.
+#![tactic(auto, unfolding(crate::specs::Range::checked_end, crate::specs::Range::saturating_end, crate::specs::Range::contains))]
+
 ghost use Rattle.std.specs.Prelude.{◌≡◌};
 ghost use Rattle.range.specs.Range.{checked_end, saturating_end, contains};
 
 // The exclusive end of a range or a span. An end past 64 bits is no end.
-#[derive(Drop)]
+#[derive(Clone, Copy)]
 pub enum CheckedEnd {
     End(u64),
     NoEnd,
 }
 
 // Consecutive entries of a list table.
-#[derive(Drop)]
+#[derive(Clone, Copy)]
 pub struct SliceRange {
     pub start: u32,
     pub len: u32,
 }
 
 // Consecutive keys of a dense table.
-#[derive(Drop)]
+#[derive(Clone, Copy)]
 pub struct IndexSpan {
     pub start: u64,
     pub len: u64,
 }
 
 // A span of modes, and one of enclaves: neither stands where the other belongs.
-#[derive(Drop)]
+#[derive(Clone, Copy)]
 pub struct ModeSpan(pub IndexSpan);
 
-#[derive(Drop)]
+#[derive(Clone, Copy)]
 pub struct EnclaveSpan(pub IndexSpan);
 
 impl SliceRange {

@@ -1,3 +1,4 @@
+#![tactic(auto)]
 // The checks of the rows of reactors, actions, ports, reactions and modes, each row's in the Rust's order.
 pub mod actions;
 pub mod bindings;

@@ -1,88 +1,88 @@
 // The index types, one for each dense table, and the small enums of optional fields and kinds.
 
-#[derive(Drop)]
+#[derive(Clone, Copy)]
 pub struct ReactorIndex(pub u32);
 
-#[derive(Drop)]
+#[derive(Clone, Copy)]
 pub struct ScopeIndex(pub u32);
 
-#[derive(Drop)]
+#[derive(Clone, Copy)]
 pub struct ModeIndex(pub u32);
 
-#[derive(Drop)]
+#[derive(Clone, Copy)]
 pub struct ActionIndex(pub u32);
 
-#[derive(Drop)]
+#[derive(Clone, Copy)]
 pub struct PortIndex(pub u32);
 
-#[derive(Drop)]
+#[derive(Clone, Copy)]
 pub struct ReactionIndex(pub u32);
 
-#[derive(Drop)]
+#[derive(Clone, Copy)]
 pub struct BindingSlotIndex(pub u32);
 
-#[derive(Drop)]
+#[derive(Clone, Copy)]
 pub enum MaybeMode {
     NoMode,
     Mode(ModeIndex),
 }
 
-#[derive(Drop)]
+#[derive(Clone, Copy)]
 pub enum MaybeScope {
     NoScope,
     Scope(ScopeIndex),
 }
 
-#[derive(Drop)]
+#[derive(Clone, Copy)]
 pub enum MaybeBinding {
     NoBinding,
     Binding(BindingSlotIndex),
 }
 
-#[derive(Drop)]
+#[derive(Clone, Copy)]
 pub struct BankInfoImage {
     pub index: u32,
     pub total: u32,
 }
 
-#[derive(Drop)]
+#[derive(Clone, Copy)]
 pub enum MaybeBank {
     NoBank,
     Bank(BankInfoImage),
 }
 
 // How a reaction's mode effect enters its target.
-#[derive(Drop)]
+#[derive(Clone, Copy)]
 pub enum Transition {
     Reset,
     History,
 }
 
-#[derive(Drop)]
+#[derive(Clone, Copy)]
 pub struct ModeEffect {
     pub transition: Transition,
     pub target: ModeIndex,
 }
 
-#[derive(Drop)]
+#[derive(Clone, Copy)]
 pub enum MaybeModeEffect {
     NoEffect,
     Effect(ModeEffect),
 }
 
-#[derive(Drop)]
+#[derive(Clone, Copy)]
 pub enum TimingDomain {
     Logical,
     Physical,
 }
 
-#[derive(Drop)]
+#[derive(Clone, Copy)]
 pub enum MaybePeriod {
     NoPeriod,
     Period(u64),
 }
 
-#[derive(Drop)]
+#[derive(Clone, Copy)]
 pub enum ActionTiming {
     Standard {
         domain: TimingDomain,
@@ -94,13 +94,13 @@ pub enum ActionTiming {
     Shutdown,
 }
 
-#[derive(Drop)]
+#[derive(Clone, Copy)]
 pub enum RouteDirection {
     Inbound,
     Outbound,
 }
 
-#[derive(Drop)]
+#[derive(Clone, Copy)]
 pub enum BindingKind {
     StateInitializer,
     Reaction,

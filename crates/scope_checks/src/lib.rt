@@ -1,3 +1,4 @@
+#![tactic(auto)]
 // The checks of the rows of scopes with their six running ends, and the walk of their parents.
 pub mod depths;
 pub mod ends;

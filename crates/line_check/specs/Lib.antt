@@ -1,2 +1,0 @@
-pub mod Files
-pub mod Line

@@ -1,4 +1,0 @@
-// The operator's program; run here on document 01's line.
-fn main() {
-    line_check::run();
-}

@@ -1,9 +1,0 @@
--- `schema::rows::PortImage::empty` meets its contract. Assumes nothing.
-use borrow.Author.Rules.{rules}
-use Rattle.schema.proofs.rows.PortImage.empty.Statement.{statement}
-use Rattle.schema.proofs.rows.PortImage.empty.Tie as tie
-
-pub empty-spec : {M : Type 1} → statement M
-empty-spec = tie.close (tie.spec
-    (λ c κs. search rules)
-    (λ c. simp c.no-range.ensures))
