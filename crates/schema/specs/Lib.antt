@@ -1,3 +1,4 @@
 pub mod Number
 pub mod Layout
 pub mod Rows
+pub mod Tables

@@ -1,9 +1,8 @@
+// The rows of a pack's tables: their types, and their readers by a lent pack and a record or row number.
 #![tactic(auto)]
-// The rows of a pack's tables: their types, and their readers by slice and record number.
+
+mod fields;
 pub mod index;
+pub mod lent;
 pub mod lists;
-pub mod number;
-pub mod parts;
-pub mod read;
-pub mod read_lists;
 pub mod rows;

@@ -1,5 +1,14 @@
-use crate::index::{ActionIndex, ModeIndex, PortIndex, ReactionIndex, ScopeIndex};
+// The rows of the list tables 8 to 22: each with its table number and its empty row.
+#![tactic(auto, using(crate::proofs::Past::rows_past), unfolding(crate::specs::Rows::index_at, crate::specs::Rows::level_at, crate::specs::Rows::startup_at, crate::specs::Rows::lifecycle_at))]
 
+ghost use Rattle.std.specs.Prelude.{◌≡◌};
+ghost use Rattle.schema.specs.Rows.{empty, index_of, level_of, startup_of, lifecycle_of};
+ghost use Rattle.std.specs.Prelude.{◌+◌, ◌/◌, ◌<◌, length};
+ghost use Rattle.schema.specs.Tables.{tables, start_of};
+ghost use Rattle.schema.specs.Rows.{index_at, level_at, startup_at, lifecycle_at};
+
+use crate::index::{ActionIndex, ModeIndex, PortIndex, ReactionIndex, ScopeIndex};
+use crate::lent::{Enclave, Pack};
 
 // A reaction with its level.
 #[derive(Clone, Copy)]
@@ -22,62 +31,274 @@ pub struct LifecycleReactionImage {
     pub action: ActionIndex,
 }
 
-// Table 8.
-#[derive(Clone, Copy)]
-pub struct ReactionTrigger(pub LevelReactionImage);
+impl LevelReactionImage {
+    pub fn empty() -> Self
+        ensures { result ≡ empty level_of }
+    {
+        LevelReactionImage {
+            level: 0,
+            reaction: ReactionIndex(0),
+        }
+    }
 
-// Table 9.
-#[derive(Clone, Copy)]
-pub struct ReactionUsePort(pub PortIndex);
+    fn inside(pack: Pack, n: usize) -> Self
+        requires { n < length pack.bytes.now / 64 }
+        ensures { result ≡ level_at pack.entry.bytes.now n }
+    {
+        LevelReactionImage {
+            level: pack.word(n, 4),
+            reaction: ReactionIndex(pack.word(n, 8)),
+        }
+    }
+}
 
-// Table 10.
-#[derive(Clone, Copy)]
-pub struct ReactionEffectPort(pub PortIndex);
+impl TimerStartupImage {
+    pub fn empty() -> Self
+        ensures { result ≡ empty startup_of }
+    {
+        TimerStartupImage {
+            action: ActionIndex(0),
+            logical_delay_nanos: 0,
+        }
+    }
 
-// Table 11.
-#[derive(Clone, Copy)]
-pub struct ReactionAction(pub ActionIndex);
+    fn inside(pack: Pack, n: usize) -> Self
+        requires { n < length pack.bytes.now / 64 }
+        ensures { result ≡ startup_at pack.entry.bytes.now n }
+    {
+        TimerStartupImage {
+            action: ActionIndex(pack.word(n, 4)),
+            logical_delay_nanos: pack.long(n, 8),
+        }
+    }
+}
 
-// Table 12.
-#[derive(Clone, Copy)]
-pub struct ReactionMode(pub ModeIndex);
+impl LifecycleReactionImage {
+    pub fn empty() -> Self
+        ensures { result ≡ empty lifecycle_of }
+    {
+        LifecycleReactionImage {
+            reaction: LevelReactionImage::empty(),
+            action: ActionIndex(0),
+        }
+    }
 
-// Table 13.
-#[derive(Clone, Copy)]
-pub struct ScopeDescendant(pub ScopeIndex);
+    fn inside(pack: Pack, n: usize) -> Self
+        requires { n < length pack.bytes.now / 64 }
+        ensures { result ≡ lifecycle_at pack.entry.bytes.now n }
+    {
+        LifecycleReactionImage {
+            reaction: LevelReactionImage {
+                level: pack.word(n, 4),
+                reaction: ReactionIndex(pack.word(n, 8)),
+            },
+            action: ActionIndex(pack.word(n, 12)),
+        }
+    }
+}
 
-// Table 14.
+// An entry of table T that names a port.
 #[derive(Clone, Copy)]
-pub struct ScopeLogicalAction(pub ActionIndex);
+pub struct PortEntry<const T: u8>(pub PortIndex);
 
-// Table 15.
-#[derive(Clone, Copy)]
-pub struct ScopeTimerStartup(pub TimerStartupImage);
+impl<const T: u8> PortEntry<T> {
+    pub const TABLE: u8 = T;
 
-// Table 16.
-#[derive(Clone, Copy)]
-pub struct ScopeResetReaction(pub LevelReactionImage);
+    pub fn empty() -> Self
+        ensures { result.0.0 ≡ empty index_of }
+    {
+        PortEntry(PortIndex(0))
+    }
 
-// Table 17.
-#[derive(Clone, Copy)]
-pub struct ScopeStartupReaction(pub LifecycleReactionImage);
+    pub fn row(e: Enclave, i: u32) -> Self
+        requires { T < tables }
+        ensures { result.0.0 ≡ index_at e.entry.pack.bytes.now (start_of e.entry.starts.now T + i) }
+    {
+        let n = e.record(T, i);
+        if e.pack.records() <= n {
+            return Self::empty();
+        }
+        PortEntry(PortIndex(e.pack.word(n, 4)))
+    }
+}
 
-// Table 18.
+// An entry of table T that names an action.
 #[derive(Clone, Copy)]
-pub struct ScopeShutdownReaction(pub LifecycleReactionImage);
+pub struct ActionEntry<const T: u8>(pub ActionIndex);
 
-// Table 19.
-#[derive(Clone, Copy)]
-pub struct StartupAction(pub TimerStartupImage);
+impl<const T: u8> ActionEntry<T> {
+    pub const TABLE: u8 = T;
 
-// Table 20.
-#[derive(Clone, Copy)]
-pub struct TimerStartupAction(pub TimerStartupImage);
+    pub fn empty() -> Self
+        ensures { result.0.0 ≡ empty index_of }
+    {
+        ActionEntry(ActionIndex(0))
+    }
 
-// Table 21.
-#[derive(Clone, Copy)]
-pub struct ShutdownReaction(pub LifecycleReactionImage);
+    pub fn row(e: Enclave, i: u32) -> Self
+        requires { T < tables }
+        ensures { result.0.0 ≡ index_at e.entry.pack.bytes.now (start_of e.entry.starts.now T + i) }
+    {
+        let n = e.record(T, i);
+        if e.pack.records() <= n {
+            return Self::empty();
+        }
+        ActionEntry(ActionIndex(e.pack.word(n, 4)))
+    }
+}
 
-// Table 22.
+// An entry of table T that names a mode.
 #[derive(Clone, Copy)]
-pub struct ShutdownAction(pub ActionIndex);
+pub struct ModeEntry<const T: u8>(pub ModeIndex);
+
+impl<const T: u8> ModeEntry<T> {
+    pub const TABLE: u8 = T;
+
+    pub fn empty() -> Self
+        ensures { result.0.0 ≡ empty index_of }
+    {
+        ModeEntry(ModeIndex(0))
+    }
+
+    pub fn row(e: Enclave, i: u32) -> Self
+        requires { T < tables }
+        ensures { result.0.0 ≡ index_at e.entry.pack.bytes.now (start_of e.entry.starts.now T + i) }
+    {
+        let n = e.record(T, i);
+        if e.pack.records() <= n {
+            return Self::empty();
+        }
+        ModeEntry(ModeIndex(e.pack.word(n, 4)))
+    }
+}
+
+// An entry of table T that names a scope.
+#[derive(Clone, Copy)]
+pub struct ScopeEntry<const T: u8>(pub ScopeIndex);
+
+impl<const T: u8> ScopeEntry<T> {
+    pub const TABLE: u8 = T;
+
+    pub fn empty() -> Self
+        ensures { result.0.0 ≡ empty index_of }
+    {
+        ScopeEntry(ScopeIndex(0))
+    }
+
+    pub fn row(e: Enclave, i: u32) -> Self
+        requires { T < tables }
+        ensures { result.0.0 ≡ index_at e.entry.pack.bytes.now (start_of e.entry.starts.now T + i) }
+    {
+        let n = e.record(T, i);
+        if e.pack.records() <= n {
+            return Self::empty();
+        }
+        ScopeEntry(ScopeIndex(e.pack.word(n, 4)))
+    }
+}
+
+// An entry of table T that names a reaction by its level.
+#[derive(Clone, Copy)]
+pub struct LevelEntry<const T: u8>(pub LevelReactionImage);
+
+impl<const T: u8> LevelEntry<T> {
+    pub const TABLE: u8 = T;
+
+    pub fn empty() -> Self
+        ensures { result.0 ≡ empty level_of }
+    {
+        LevelEntry(LevelReactionImage::empty())
+    }
+
+    pub fn row(e: Enclave, i: u32) -> Self
+        requires { T < tables }
+        ensures { result.0 ≡ level_at e.entry.pack.bytes.now (start_of e.entry.starts.now T + i) }
+    {
+        let n = e.record(T, i);
+        if e.pack.records() <= n {
+            return Self::empty();
+        }
+        LevelEntry(LevelReactionImage::inside(e.pack, n))
+    }
+}
+
+// An entry of table T that names an action with a delay.
+#[derive(Clone, Copy)]
+pub struct StartupEntry<const T: u8>(pub TimerStartupImage);
+
+impl<const T: u8> StartupEntry<T> {
+    pub const TABLE: u8 = T;
+
+    pub fn empty() -> Self
+        ensures { result.0 ≡ empty startup_of }
+    {
+        StartupEntry(TimerStartupImage::empty())
+    }
+
+    pub fn row(e: Enclave, i: u32) -> Self
+        requires { T < tables }
+        ensures { result.0 ≡ startup_at e.entry.pack.bytes.now (start_of e.entry.starts.now T + i) }
+    {
+        let n = e.record(T, i);
+        if e.pack.records() <= n {
+            return Self::empty();
+        }
+        StartupEntry(TimerStartupImage::inside(e.pack, n))
+    }
+}
+
+// An entry of table T that names a reaction by its level, and an action.
+#[derive(Clone, Copy)]
+pub struct LifecycleEntry<const T: u8>(pub LifecycleReactionImage);
+
+impl<const T: u8> LifecycleEntry<T> {
+    pub const TABLE: u8 = T;
+
+    pub fn empty() -> Self
+        ensures { result.0 ≡ empty lifecycle_of }
+    {
+        LifecycleEntry(LifecycleReactionImage::empty())
+    }
+
+    pub fn row(e: Enclave, i: u32) -> Self
+        requires { T < tables }
+        ensures { result.0 ≡ lifecycle_at e.entry.pack.bytes.now (start_of e.entry.starts.now T + i) }
+    {
+        let n = e.record(T, i);
+        if e.pack.records() <= n {
+            return Self::empty();
+        }
+        LifecycleEntry(LifecycleReactionImage::inside(e.pack, n))
+    }
+}
+
+// The list tables, by their numbers.
+pub type ReactionTrigger = LevelEntry<8>;
+
+pub type ReactionUsePort = PortEntry<9>;
+
+pub type ReactionEffectPort = PortEntry<10>;
+
+pub type ReactionAction = ActionEntry<11>;
+
+pub type ReactionMode = ModeEntry<12>;
+
+pub type ScopeDescendant = ScopeEntry<13>;
+
+pub type ScopeLogicalAction = ActionEntry<14>;
+
+pub type ScopeTimerStartup = StartupEntry<15>;
+
+pub type ScopeResetReaction = LevelEntry<16>;
+
+pub type ScopeStartupReaction = LifecycleEntry<17>;
+
+pub type ScopeShutdownReaction = LifecycleEntry<18>;
+
+pub type StartupAction = StartupEntry<19>;
+
+pub type TimerStartupAction = StartupEntry<20>;
+
+pub type ShutdownReaction = LifecycleEntry<21>;
+
+pub type ShutdownAction = ActionEntry<22>;

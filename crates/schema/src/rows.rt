@@ -1,7 +1,23 @@
-use crate::index::{ActionTiming, BindingKind, BindingSlotIndex, MaybeBank, MaybeBinding, MaybeMode, MaybeModeEffect, MaybeScope, PortIndex, ReactorIndex, RouteDirection, ScopeIndex, TimingDomain};
-use identity::{IdentityPlace};
-use range::{EnclaveSpan, ModeSpan, SliceRange};
+// The rows of tables 0 to 7, 23 and 24: each with its table number and its empty row, the row of a record of zeros.
+#![tactic(auto, using(crate::proofs::Past::rows_past), unfolding(crate::specs::Rows::federate_at, crate::specs::Rows::enclave_at, crate::specs::Rows::reactor_at, crate::specs::Rows::action_at, crate::specs::Rows::port_at, crate::specs::Rows::reaction_at, crate::specs::Rows::mode_at, crate::specs::Rows::scope_at, crate::specs::Rows::route_at, crate::specs::Rows::binding_at))]
 
+ghost use Rattle.schema.specs.Tables.{start_of};
+ghost use Rattle.std.specs.Prelude.{◌≡◌, ◌+◌, ◌<◌, ◌/◌, length, false};
+ghost use Rattle.schema.specs.Rows.{federate_at, enclave_at, reactor_at, action_at, port_at, reaction_at, mode_at, scope_at, route_at, binding_at};
+ghost use Rattle.schema.specs.Rows.{empty, federate_of, enclave_of, reactor_of, action_of, port_of, reaction_of, mode_of, scope_of, route_of, binding_of};
+
+use crate::fields::{
+    direction_of, domain_of, kind_of, maybe_bank, maybe_binding, maybe_effect, maybe_mode,
+    maybe_scope, timing_of,
+};
+use crate::index::{
+    ActionIndex, ActionTiming, BindingKind, BindingSlotIndex, MaybeBank, MaybeBinding, MaybeMode,
+    MaybeModeEffect, MaybeScope, ModeIndex, PortIndex, ReactionIndex, ReactorIndex, RouteDirection,
+    ScopeIndex, TimingDomain,
+};
+use crate::lent::{Enclave, Pack, bit};
+use identity::IdentityPlace;
+use range::{EnclaveSpan, IndexSpan, ModeSpan, SliceRange};
 
 #[derive(Clone, Copy)]
 pub struct FederateImage {
@@ -100,4 +116,492 @@ pub struct RouteImage {
 pub struct RequiredBindingImage {
     pub id: IdentityPlace,
     pub kind: BindingKind,
+}
+
+// The empty part at the start of the batch text.
+fn no_text() -> IdentityPlace
+    ensures { result ≡ record { house = false; start = 0; len = 0 } }
+{
+    IdentityPlace {
+        house: false,
+        start: 0,
+        len: 0,
+    }
+}
+
+fn no_span() -> IndexSpan
+    ensures { result ≡ record { start = 0; len = 0 } }
+{
+    IndexSpan { start: 0, len: 0 }
+}
+
+fn no_range() -> SliceRange
+    ensures { result ≡ record { start = 0; len = 0 } }
+{
+    SliceRange { start: 0, len: 0 }
+}
+
+impl FederateImage {
+    pub const TABLE: u8 = 0;
+
+    pub fn empty() -> Self
+        ensures { result ≡ empty federate_of }
+    {
+        FederateImage {
+            id: no_text(),
+            target: no_text(),
+            runtime: no_text(),
+            enclaves: EnclaveSpan(no_span()),
+        }
+    }
+
+    // The row of record n; the empty row where the pack ends before it.
+    pub fn at(pack: Pack, n: usize) -> Self
+        ensures { result ≡ federate_at pack.entry.bytes.now n }
+    {
+        if pack.records() <= n {
+            return Self::empty();
+        }
+        Self::inside(pack, n)
+    }
+
+    fn inside(pack: Pack, n: usize) -> Self
+        requires { n < length pack.bytes.now / 64 }
+        ensures { result ≡ federate_at pack.entry.bytes.now n }
+    {
+        let bits = pack.byte(n, 1);
+        FederateImage {
+            id: pack.place(n, 4, bit(bits, 0)),
+            target: pack.place(n, 12, bit(bits, 1)),
+            runtime: pack.place(n, 20, bit(bits, 2)),
+            enclaves: EnclaveSpan(pack.span(n, 28)),
+        }
+    }
+}
+
+impl EnclaveImage {
+    pub const TABLE: u8 = 1;
+
+    pub fn empty() -> Self
+        ensures { result ≡ empty enclave_of }
+    {
+        EnclaveImage {
+            enclave_id: no_text(),
+            storage_bounds: StorageBounds {
+                state_slots: 0,
+                action_slots: 0,
+                event_capacity: 0,
+                payload_bytes: 0,
+                state_bytes: 0,
+                scratch_bytes: 0,
+            },
+        }
+    }
+
+    // The row of record n; the empty row where the pack ends before it.
+    pub fn at(pack: Pack, n: usize) -> Self
+        ensures { result ≡ enclave_at pack.entry.bytes.now n }
+    {
+        if pack.records() <= n {
+            return Self::empty();
+        }
+        Self::inside(pack, n)
+    }
+
+    fn inside(pack: Pack, n: usize) -> Self
+        requires { n < length pack.bytes.now / 64 }
+        ensures { result ≡ enclave_at pack.entry.bytes.now n }
+    {
+        EnclaveImage {
+            enclave_id: pack.place(n, 4, bit(pack.byte(n, 1), 0)),
+            storage_bounds: StorageBounds {
+                state_slots: pack.word(n, 12),
+                action_slots: pack.word(n, 16),
+                event_capacity: pack.word(n, 20),
+                payload_bytes: pack.long(n, 24),
+                state_bytes: pack.long(n, 32),
+                scratch_bytes: pack.long(n, 40),
+            },
+        }
+    }
+}
+
+impl ReactorImage {
+    pub const TABLE: u8 = 2;
+
+    pub fn empty() -> Self
+        ensures { result ≡ empty reactor_of }
+    {
+        ReactorImage {
+            state_binding: BindingSlotIndex(0),
+            state_slot: 0,
+            root_scope: ScopeIndex(0),
+            modes: ModeSpan(no_span()),
+            initial_mode: MaybeMode::NoMode,
+            bank: MaybeBank::NoBank,
+        }
+    }
+
+    // The row of record n; the empty row where the pack ends before it.
+    pub fn at(pack: Pack, n: usize) -> Self
+        ensures { result ≡ reactor_at pack.entry.bytes.now n }
+    {
+        if pack.records() <= n {
+            return Self::empty();
+        }
+        Self::inside(pack, n)
+    }
+
+    // Row i of the enclave's table.
+    pub fn row(e: Enclave, i: ReactorIndex) -> Self
+        ensures { result ≡ reactor_at e.entry.pack.bytes.now (start_of e.entry.starts.now 2 + i.0) }
+    {
+        Self::at(e.pack, e.record(ReactorImage::TABLE, i.0))
+    }
+
+    fn inside(pack: Pack, n: usize) -> Self
+        requires { n < length pack.bytes.now / 64 }
+        ensures { result ≡ reactor_at pack.entry.bytes.now n }
+    {
+        let bits = pack.byte(n, 1);
+        ReactorImage {
+            state_binding: BindingSlotIndex(pack.word(n, 4)),
+            state_slot: pack.word(n, 8),
+            root_scope: ScopeIndex(pack.word(n, 12)),
+            modes: ModeSpan(pack.span(n, 16)),
+            initial_mode: maybe_mode(bit(bits, 0), pack.word(n, 32)),
+            bank: maybe_bank(bit(bits, 1), pack.word(n, 36), pack.word(n, 40)),
+        }
+    }
+}
+
+impl ActionImage {
+    pub const TABLE: u8 = 3;
+
+    pub fn empty() -> Self
+        ensures { result ≡ empty action_of }
+    {
+        ActionImage {
+            scope: ScopeIndex(0),
+            storage_slot: 0,
+            binding: MaybeBinding::NoBinding,
+            timing: ActionTiming::Standard {
+                domain: TimingDomain::Logical,
+                min_delay_nanos: 0,
+            },
+            triggers: no_range(),
+        }
+    }
+
+    // The row of record n; the empty row where the pack ends before it.
+    pub fn at(pack: Pack, n: usize) -> Self
+        ensures { result ≡ action_at pack.entry.bytes.now n }
+    {
+        if pack.records() <= n {
+            return Self::empty();
+        }
+        Self::inside(pack, n)
+    }
+
+    // Row i of the enclave's table.
+    pub fn row(e: Enclave, i: ActionIndex) -> Self
+        ensures { result ≡ action_at e.entry.pack.bytes.now (start_of e.entry.starts.now 3 + i.0) }
+    {
+        Self::at(e.pack, e.record(ActionImage::TABLE, i.0))
+    }
+
+    fn inside(pack: Pack, n: usize) -> Self
+        requires { n < length pack.bytes.now / 64 }
+        ensures { result ≡ action_at pack.entry.bytes.now n }
+    {
+        let bits = pack.byte(n, 1);
+        ActionImage {
+            scope: ScopeIndex(pack.word(n, 4)),
+            storage_slot: pack.word(n, 8),
+            binding: maybe_binding(bit(bits, 0), pack.word(n, 12)),
+            timing: timing_of(pack.byte(n, 2), bit(bits, 1), pack.long(n, 16)),
+            triggers: pack.range(n, 24),
+        }
+    }
+}
+
+impl PortImage {
+    pub const TABLE: u8 = 4;
+
+    pub fn empty() -> Self
+        ensures { result ≡ empty port_of }
+    {
+        PortImage {
+            binding: BindingSlotIndex(0),
+            scope: ScopeIndex(0),
+            triggers: no_range(),
+        }
+    }
+
+    // The row of record n; the empty row where the pack ends before it.
+    pub fn at(pack: Pack, n: usize) -> Self
+        ensures { result ≡ port_at pack.entry.bytes.now n }
+    {
+        if pack.records() <= n {
+            return Self::empty();
+        }
+        Self::inside(pack, n)
+    }
+
+    // Row i of the enclave's table.
+    pub fn row(e: Enclave, i: PortIndex) -> Self
+        ensures { result ≡ port_at e.entry.pack.bytes.now (start_of e.entry.starts.now 4 + i.0) }
+    {
+        Self::at(e.pack, e.record(PortImage::TABLE, i.0))
+    }
+
+    fn inside(pack: Pack, n: usize) -> Self
+        requires { n < length pack.bytes.now / 64 }
+        ensures { result ≡ port_at pack.entry.bytes.now n }
+    {
+        PortImage {
+            binding: BindingSlotIndex(pack.word(n, 4)),
+            scope: ScopeIndex(pack.word(n, 8)),
+            triggers: pack.range(n, 12),
+        }
+    }
+}
+
+impl ReactionImage {
+    pub const TABLE: u8 = 5;
+
+    pub fn empty() -> Self
+        ensures { result ≡ empty reaction_of }
+    {
+        ReactionImage {
+            external_effect: false,
+            reactor: ReactorIndex(0),
+            scope: ScopeIndex(0),
+            dependency_level: 0,
+            binding: BindingSlotIndex(0),
+            use_ports: no_range(),
+            effect_ports: no_range(),
+            actions: no_range(),
+            enabled_modes: no_range(),
+            mode_effect: MaybeModeEffect::NoEffect,
+        }
+    }
+
+    // The row of record n; the empty row where the pack ends before it.
+    pub fn at(pack: Pack, n: usize) -> Self
+        ensures { result ≡ reaction_at pack.entry.bytes.now n }
+    {
+        if pack.records() <= n {
+            return Self::empty();
+        }
+        Self::inside(pack, n)
+    }
+
+    // Row i of the enclave's table.
+    pub fn row(e: Enclave, i: ReactionIndex) -> Self
+        ensures { result ≡ reaction_at e.entry.pack.bytes.now (start_of e.entry.starts.now 5 + i.0) }
+    {
+        Self::at(e.pack, e.record(ReactionImage::TABLE, i.0))
+    }
+
+    fn inside(pack: Pack, n: usize) -> Self
+        requires { n < length pack.bytes.now / 64 }
+        ensures { result ≡ reaction_at pack.entry.bytes.now n }
+    {
+        let bits = pack.byte(n, 1);
+        ReactionImage {
+            external_effect: bit(bits, 0),
+            reactor: ReactorIndex(pack.word(n, 4)),
+            scope: ScopeIndex(pack.word(n, 8)),
+            dependency_level: pack.word(n, 12),
+            binding: BindingSlotIndex(pack.word(n, 16)),
+            use_ports: pack.range(n, 20),
+            effect_ports: pack.range(n, 28),
+            actions: pack.range(n, 36),
+            enabled_modes: pack.range(n, 44),
+            mode_effect: maybe_effect(bit(bits, 1), pack.byte(n, 2), pack.word(n, 52)),
+        }
+    }
+}
+
+impl ModeImage {
+    pub const TABLE: u8 = 6;
+
+    pub fn empty() -> Self
+        ensures { result ≡ empty mode_of }
+    {
+        ModeImage {
+            reactor: ReactorIndex(0),
+            scope: ScopeIndex(0),
+        }
+    }
+
+    // The row of record n; the empty row where the pack ends before it.
+    pub fn at(pack: Pack, n: usize) -> Self
+        ensures { result ≡ mode_at pack.entry.bytes.now n }
+    {
+        if pack.records() <= n {
+            return Self::empty();
+        }
+        Self::inside(pack, n)
+    }
+
+    // Row i of the enclave's table.
+    pub fn row(e: Enclave, i: ModeIndex) -> Self
+        ensures { result ≡ mode_at e.entry.pack.bytes.now (start_of e.entry.starts.now 6 + i.0) }
+    {
+        Self::at(e.pack, e.record(ModeImage::TABLE, i.0))
+    }
+
+    fn inside(pack: Pack, n: usize) -> Self
+        requires { n < length pack.bytes.now / 64 }
+        ensures { result ≡ mode_at pack.entry.bytes.now n }
+    {
+        ModeImage {
+            reactor: ReactorIndex(pack.word(n, 4)),
+            scope: ScopeIndex(pack.word(n, 8)),
+        }
+    }
+}
+
+impl ScopeImage {
+    pub const TABLE: u8 = 7;
+
+    pub fn empty() -> Self
+        ensures { result ≡ empty scope_of }
+    {
+        ScopeImage {
+            parent: MaybeScope::NoScope,
+            reactor: ReactorIndex(0),
+            mode: MaybeMode::NoMode,
+            descendants: no_range(),
+            logical_actions: no_range(),
+            timer_startups: no_range(),
+            reset_reactions: no_range(),
+            startup_reactions: no_range(),
+            shutdown_reactions: no_range(),
+        }
+    }
+
+    // The row of record n; the empty row where the pack ends before it.
+    pub fn at(pack: Pack, n: usize) -> Self
+        ensures { result ≡ scope_at pack.entry.bytes.now n }
+    {
+        if pack.records() <= n {
+            return Self::empty();
+        }
+        Self::inside(pack, n)
+    }
+
+    // Row i of the enclave's table.
+    pub fn row(e: Enclave, i: ScopeIndex) -> Self
+        ensures { result ≡ scope_at e.entry.pack.bytes.now (start_of e.entry.starts.now 7 + i.0) }
+    {
+        Self::at(e.pack, e.record(ScopeImage::TABLE, i.0))
+    }
+
+    fn inside(pack: Pack, n: usize) -> Self
+        requires { n < length pack.bytes.now / 64 }
+        ensures { result ≡ scope_at pack.entry.bytes.now n }
+    {
+        let bits = pack.byte(n, 1);
+        ScopeImage {
+            parent: maybe_scope(bit(bits, 0), pack.word(n, 4)),
+            reactor: ReactorIndex(pack.word(n, 8)),
+            mode: maybe_mode(bit(bits, 1), pack.word(n, 12)),
+            descendants: pack.range(n, 16),
+            logical_actions: pack.range(n, 24),
+            timer_startups: pack.range(n, 32),
+            reset_reactions: pack.range(n, 40),
+            startup_reactions: pack.range(n, 48),
+            shutdown_reactions: pack.range(n, 56),
+        }
+    }
+}
+
+impl RouteImage {
+    pub const TABLE: u8 = 23;
+
+    pub fn empty() -> Self
+        ensures { result ≡ empty route_of }
+    {
+        RouteImage {
+            boundary: no_text(),
+            local_port: PortIndex(0),
+            direction: RouteDirection::Inbound,
+            timing_domain: TimingDomain::Logical,
+            delay_nanos: 0,
+        }
+    }
+
+    // The row of record n; the empty row where the pack ends before it.
+    pub fn at(pack: Pack, n: usize) -> Self
+        ensures { result ≡ route_at pack.entry.bytes.now n }
+    {
+        if pack.records() <= n {
+            return Self::empty();
+        }
+        Self::inside(pack, n)
+    }
+
+    // Row i of the enclave's table.
+    pub fn row(e: Enclave, i: u32) -> Self
+        ensures { result ≡ route_at e.entry.pack.bytes.now (start_of e.entry.starts.now 23 + i) }
+    {
+        Self::at(e.pack, e.record(RouteImage::TABLE, i))
+    }
+
+    fn inside(pack: Pack, n: usize) -> Self
+        requires { n < length pack.bytes.now / 64 }
+        ensures { result ≡ route_at pack.entry.bytes.now n }
+    {
+        let kinds = pack.byte(n, 2);
+        RouteImage {
+            boundary: pack.place(n, 4, bit(pack.byte(n, 1), 0)),
+            local_port: PortIndex(pack.word(n, 12)),
+            direction: direction_of(bit(kinds, 0)),
+            timing_domain: domain_of(bit(kinds, 1)),
+            delay_nanos: pack.long(n, 16),
+        }
+    }
+}
+
+impl RequiredBindingImage {
+    pub const TABLE: u8 = 24;
+
+    pub fn empty() -> Self
+        ensures { result ≡ empty binding_of }
+    {
+        RequiredBindingImage {
+            id: no_text(),
+            kind: BindingKind::StateInitializer,
+        }
+    }
+
+    // The row of record n; the empty row where the pack ends before it.
+    pub fn at(pack: Pack, n: usize) -> Self
+        ensures { result ≡ binding_at pack.entry.bytes.now n }
+    {
+        if pack.records() <= n {
+            return Self::empty();
+        }
+        Self::inside(pack, n)
+    }
+
+    // Row i of the enclave's table.
+    pub fn row(e: Enclave, i: BindingSlotIndex) -> Self
+        ensures { result ≡ binding_at e.entry.pack.bytes.now (start_of e.entry.starts.now 24 + i.0) }
+    {
+        Self::at(e.pack, e.record(RequiredBindingImage::TABLE, i.0))
+    }
+
+    fn inside(pack: Pack, n: usize) -> Self
+        requires { n < length pack.bytes.now / 64 }
+        ensures { result ≡ binding_at pack.entry.bytes.now n }
+    {
+        RequiredBindingImage {
+            id: pack.place(n, 4, bit(pack.byte(n, 1), 0)),
+            kind: kind_of(pack.byte(n, 2)),
+        }
+    }
 }

@@ -1,0 +1,150 @@
+// A lent pack of whole records, and the numbers that stand in one.
+ghost use Rattle.std.specs.Prelude.{◌≡◌, ◌+◌, ◌*◌, ◌/◌, ◌%◌, ◌<◌, ◌≤◌, length};
+ghost use Rattle.schema.specs.Number.{number};
+ghost use Rattle.schema.specs.Tables.{start_of, rows_of, IsRising, EndsInside, tables};
+ghost use Rattle.schema.specs.Rows.{byte_of, bit_of, range, span, place};
+
+use identity::IdentityPlace;
+use range::{IndexSpan, SliceRange};
+
+// At most so many bytes are a pack.
+pub const PACK_LIMIT: usize = 4_194_304;
+
+// A pack: records of 64 bytes, within the limit.
+#[derive(Clone, Copy)]
+pub struct Pack<'a> {
+    pub bytes: &'a [u8],
+    ghost whole: { length bytes.now % 64 ≡ 0 },
+    ghost limited: { length bytes.now ≤ 4194304 },
+}
+
+#[tactic(auto, unfolding(crate::specs::Number::number))]
+fn word_at(p: &[u8], at: usize) -> u32
+    requires { at + 4 ≤ length p.now }
+    ensures { result ≡ number 4 p.now at }
+{
+    u32::from_be_bytes([p[at], p[at + 1], p[at + 2], p[at + 3]])
+}
+
+#[tactic(auto, unfolding(crate::specs::Number::number))]
+fn long_at(p: &[u8], at: usize) -> u64
+    requires { at + 8 ≤ length p.now }
+    ensures { result ≡ number 8 p.now at }
+{
+    word_at(p, at) as u64 * 0x1_0000_0000 + word_at(p, at + 4) as u64
+}
+
+// Bit k of a byte, the lowest first.
+pub fn bit(b: u8, k: u32) -> bool
+    requires { k < 8 }
+    ensures { result ≡ bit_of b k }
+{
+    b / 2u8.pow(k) % 2 == 1
+}
+
+impl<'a> Pack<'a> {
+    // How many records the pack has.
+    pub fn records(self) -> usize
+        ensures { result ≡ length self.entry.bytes.now / 64 }
+    {
+        self.bytes.len() / 64
+    }
+
+    // Byte j of record n, and the W and the D from byte j.
+    pub fn byte(self, n: usize, j: usize) -> u8
+        requires inside { n < length self.bytes.now / 64 }
+        requires in_record { j < 64 }
+        ensures { result ≡ byte_of self.entry.bytes.now n j }
+    {
+        self.bytes[n * 64 + j]
+    }
+
+    pub fn word(self, n: usize, j: usize) -> u32
+        requires inside { n < length self.bytes.now / 64 }
+        requires in_record { j ≤ 60 }
+        ensures { result ≡ number 4 self.entry.bytes.now (n * 64 + j) }
+    {
+        word_at(self.bytes, n * 64 + j)
+    }
+
+    pub fn long(self, n: usize, j: usize) -> u64
+        requires inside { n < length self.bytes.now / 64 }
+        requires in_record { j ≤ 56 }
+        ensures { result ≡ number 8 self.entry.bytes.now (n * 64 + j) }
+    {
+        long_at(self.bytes, n * 64 + j)
+    }
+
+    // The range from byte j: a start and a length.
+    pub fn range(self, n: usize, j: usize) -> SliceRange
+        requires inside { n < length self.bytes.now / 64 }
+        requires in_record { j ≤ 56 }
+        ensures start { result.start ≡ number 4 self.entry.bytes.now (n * 64 + j) }
+        ensures len { result.len ≡ number 4 self.entry.bytes.now (n * 64 + (j + 4)) }
+    {
+        SliceRange {
+            start: self.word(n, j),
+            len: self.word(n, j + 4),
+        }
+    }
+
+    // The span from byte j, and the identity's place from byte j.
+    pub fn span(self, n: usize, j: usize) -> IndexSpan
+        requires inside { n < length self.bytes.now / 64 }
+        requires in_record { j ≤ 48 }
+        ensures start { result.start ≡ number 8 self.entry.bytes.now (n * 64 + j) }
+        ensures len { result.len ≡ number 8 self.entry.bytes.now (n * 64 + (j + 8)) }
+    {
+        IndexSpan {
+            start: self.long(n, j),
+            len: self.long(n, j + 8),
+        }
+    }
+
+    pub fn place(self, n: usize, j: usize, house: bool) -> IdentityPlace
+        requires inside { n < length self.bytes.now / 64 }
+        requires in_record { j ≤ 56 }
+        ensures { result ≡ record { house = house; start = number 4 self.entry.bytes.now (n * 64 + j); len = number 4 self.entry.bytes.now (n * 64 + (j + 4)) } }
+    {
+        IdentityPlace {
+            house,
+            start: self.word(n, j),
+            len: self.word(n, j + 4),
+        }
+    }
+}
+
+// How many tables there are, 0 to 24.
+pub const TABLES: usize = 25;
+
+// The record number of each table's first row in one enclave, and of the enclave's end.
+pub type TableStarts = [u32; 26];
+
+// One enclave of a pack: where its tables begin, and the two texts that its identities name parts of.
+#[derive(Clone, Copy)]
+pub struct Enclave<'a> {
+    pub pack: Pack<'a>,
+    pub starts: &'a TableStarts,
+    pub batch: &'a [u8],
+    pub house: &'a [u8],
+    ghost rising: { IsRising starts.now },
+    ghost inside: { EndsInside pack.bytes.now starts.now },
+}
+
+impl<'a> Enclave<'a> {
+    // How many rows a table has.
+    pub fn rows(self, table: u8) -> u32
+        requires { table < tables }
+        ensures { result ≡ rows_of self.entry.starts.now table }
+    {
+        self.starts[table as usize + 1] - self.starts[table as usize]
+    }
+
+    // The record of row i of a table.
+    pub fn record(self, table: u8, i: u32) -> usize
+        requires { table < tables }
+        ensures { result ≡ start_of self.entry.starts.now table + i }
+    {
+        self.starts[table as usize] as usize + i as usize
+    }
+}
