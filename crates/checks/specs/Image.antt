@@ -1,5 +1,5 @@
 -- The image of an enclave: what its check looks at, and no more. Assumes nothing.
-use Rattle.std.specs.Prelude.{ℕ, ◌+◌, ◌-◌, ◌/◌, ◌<◌, ◌≤◌, Bool, true, false, List, get_or, length}
+use Rattle.std.specs.Prelude.{ℕ, ◌+◌, Bool, true, false, List}
 use Rattle.identity.specs.declared.IdentityPlace.{IdentityPlace}
 use Rattle.identity.specs.Text.{identity_text}
 use Rattle.range.specs.declared.SliceRange.{SliceRange}
@@ -21,6 +21,8 @@ use Rattle.schema.specs.declared.rows.RouteImage.{RouteImage}
 use Rattle.schema.specs.declared.rows.RequiredBindingImage.{RequiredBindingImage}
 use Rattle.schema.specs.declared.lists.LevelReactionImage.{LevelReactionImage}
 use Rattle.schema.specs.declared.lists.LifecycleReactionImage.{LifecycleReactionImage}
+use Rattle.schema.specs.declared.lent.Enclave.{Enclave}
+use Rattle.schema.specs.Tables.{start_of, rows_of}
 use Rattle.schema.specs.Rows.{enclave_at, reactor_at, action_at, port_at, reaction_at, mode_at, scope_at, index_at, level_at, startup_at, lifecycle_at, route_at, binding_at}
 
 -- an action without its delay, domain and period
@@ -106,21 +108,6 @@ pub record Image : Type 0 where
   pub state_slots : ℕ
   pub action_slots : ℕ
 
--- s holds the record number of each table's first row; table t has the rows up to the next table's first
-abbrev pub start_of : List ℕ → ℕ → ℕ
-start_of s t = get_or s t 0
-
-abbrev pub rows_of : List ℕ → ℕ → ℕ
-rows_of s t = get_or s (t + 1) 0 - get_or s t 0
-
--- the starts s rise from table to table
-pub record Rising (s : List ℕ) : Type 0 where
-  pub rises : (t : ℕ) → t < 25 → get_or s t 0 ≤ get_or s (t + 1) 0
-
--- the tables that begin at s end inside the pack p
-abbrev pub Within : List ℕ → List ℕ → Type 0
-Within p s = get_or s 25 0 ≤ length p / 64
-
 -- the rows of a table as functions of the index, where another row's checks need them
 abbrev pub reactions_at : List ℕ → List ℕ → ℕ → ReactionPart
 reactions_at p s i = reaction_part (reaction_at p (start_of s 5 + i))
@@ -140,9 +127,9 @@ levels_at p s t i = level_at p (start_of s t + i)
 abbrev pub lifecycles_at : List ℕ → List ℕ → ℕ → ℕ → LifecycleReactionImage
 lifecycles_at p s t i = lifecycle_at p (start_of s t + i)
 
--- the image of the enclave of record n of the pack p, whose tables begin at s
-abbrev pub image : List ℕ → List ℕ → List ℕ → List ℕ → ℕ → Image
-image p batch house s n =
+-- the image of the enclave of the pack p, whose tables begin at s
+abbrev pub image : List ℕ → List ℕ → List ℕ → List ℕ → Image
+image p batch house s =
     record {
       rows = rows_of s;
       reactors = λ i. reactor_at p (start_of s 2 + i);
@@ -157,8 +144,12 @@ image p batch house s n =
       lifecycles = lifecycles_at p s;
       routes = λ i. route_part (route_at p (start_of s 23 + i));
       bindings = bindings_at p s;
-      enclave_id = (enclave_at p n).enclave_id;
+      enclave_id = (enclave_at p 0).enclave_id;
       text = λ id. identity_text batch house id;
-      state_slots = (enclave_at p n).storage_bounds.state_slots;
-      action_slots = (enclave_at p n).storage_bounds.action_slots;
+      state_slots = (enclave_at p 0).storage_bounds.state_slots;
+      action_slots = (enclave_at p 0).storage_bounds.action_slots;
     }
+
+-- the image of an enclave as it is lent
+abbrev pub image_of : Enclave → Image
+image_of e = image e.pack.bytes.now e.batch.now e.house.now e.starts.now

@@ -2,4 +2,3 @@ pub mod Image
 pub mod Refs
 pub mod Lists
 pub mod Identities
-pub mod PassedOver

@@ -8,10 +8,9 @@ use Rattle.range.specs.Range.{checked_end, saturating_end}
 use Rattle.answers.specs.declared.Refusal.TheVariants.{TableTooLarge, ReferenceOutOfBounds, RangeOutOfBounds, RangesNotMonotonic}
 use Rattle.answers.specs.declared.Outcome.{Outcome}
 use Rattle.answers.specs.declared.Outcome.TheVariants.{Passed, Refused}
-use Rattle.answers.specs.Checks.{Check, need, Looked}
+use Rattle.answers.specs.Checks.{Check, need}
 use Rattle.checks.specs.declared.Found.{Found}
 use Rattle.checks.specs.declared.Found.TheVariants as found
-use Rattle.checks.specs.Image.{start_of, rows_of}
 
 -- a table fits its key's domain, 2 ^ 32 rows
 abbrev pub length_check : (ℕ → ℕ) → ℕ → Check
@@ -21,13 +20,12 @@ length_check rows t = need (leb (rows t) (2 ^ 32)) (TableTooLarge t)
 abbrev pub ref_to : (ℕ → ℕ) → ℕ → ℕ → ℕ → ℕ → ℕ → Check
 ref_to rows t i f g v = need (ltb v (rows g)) (ReferenceOutOfBounds t i f g v)
 
--- what a lookup of that reference answers: the record number of the row, or the refusal
-abbrev pub LookedUp : List ℕ → ℕ → ℕ → ℕ → ℕ → ℕ → Found → Type 0
-LookedUp s t i f g v r =
-    Looked (ltb v (rows_of s g)) (found.Row (start_of s g + v)) (found.Refused (ReferenceOutOfBounds t i f g v)) r
+-- what a lookup of that reference answers: the key v, or the refusal
+abbrev pub looked_up : {K : Type 0} → (ℕ → ℕ) → ℕ → ℕ → ℕ → ℕ → K → ℕ → Found K
+looked_up rows t i f g key v = cond (ltb v (rows g)) (found.Row key) (found.Refused (ReferenceOutOfBounds t i f g v))
 
-abbrev pub found_outcome : Found → Outcome
-found_outcome (found.Row n) = Passed
+abbrev pub found_outcome : {K : Type 0} → Found K → Outcome
+found_outcome (found.Row k) = Passed
 found_outcome (found.Refused r) = Refused r
 
 abbrev pub end_within : CheckedEnd → ℕ → Bool

@@ -1,14 +1,29 @@
-#![tactic(auto)]
-use answers::{Refusal};
 // Lookups, ranges, spans, level and lifecycle lists, identities: the checks that rows' checks are made of.
-pub mod identities;
+#![tactic(auto, unfolding(answers::specs::Checks::first))]
+
 pub mod lists;
 pub mod refs;
 
+ghost use Rattle.std.specs.Prelude.{◌≡◌};
+ghost use Rattle.checks.specs.Refs.{found_outcome};
 
-// A lookup's answer: the record number of the row, or the refusal.
+use answers::{Outcome, Refusal};
+
+// A lookup's answer: the key, whose table has the row, or the refusal.
 #[derive(Clone, Copy)]
-pub enum Found {
-    Row(usize),
+pub enum Found<K> {
+    Row(K),
     Refused(Refusal),
+}
+
+impl<K: Copy> Found<K> {
+    // The refusal, to be passed up.
+    pub fn refused(self) -> Outcome
+        ensures { result ≡ found_outcome self }
+    {
+        match self {
+            Found::Row(_) => Outcome::Passed,
+            Found::Refused(r) => Outcome::Refused(r),
+        }
+    }
 }

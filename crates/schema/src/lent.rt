@@ -1,5 +1,5 @@
 // A lent pack of whole records, and the numbers that stand in one.
-ghost use Rattle.std.specs.Prelude.{◌≡◌, ◌+◌, ◌*◌, ◌/◌, ◌%◌, ◌<◌, ◌≤◌, length};
+ghost use Rattle.std.specs.Prelude.{◌≡◌, ◌+◌, ◌*◌, ◌/◌, ◌%◌, ◌^◌, ◌<◌, ◌≤◌, length};
 ghost use Rattle.schema.specs.Number.{number};
 ghost use Rattle.schema.specs.Tables.{start_of, rows_of, IsRising, EndsInside, tables};
 ghost use Rattle.schema.specs.Rows.{byte_of, bit_of, range, span, place};
@@ -141,10 +141,11 @@ impl<'a> Enclave<'a> {
     }
 
     // The record of row i of a table.
-    pub fn record(self, table: u8, i: u32) -> usize
-        requires { table < tables }
+    pub fn record(self, table: u8, i: usize) -> usize
+        requires known { table < tables }
+        requires within { i < 2 ^ 33 }
         ensures { result ≡ start_of self.entry.starts.now table + i }
     {
-        self.starts[table as usize] as usize + i as usize
+        self.starts[table as usize] as usize + i
     }
 }

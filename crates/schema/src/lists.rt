@@ -3,7 +3,7 @@
 
 ghost use Rattle.std.specs.Prelude.{◌≡◌};
 ghost use Rattle.schema.specs.Rows.{empty, index_of, level_of, startup_of, lifecycle_of};
-ghost use Rattle.std.specs.Prelude.{◌+◌, ◌/◌, ◌<◌, length};
+ghost use Rattle.std.specs.Prelude.{◌+◌, ◌/◌, ◌^◌, ◌<◌, length};
 ghost use Rattle.schema.specs.Tables.{tables, start_of};
 ghost use Rattle.schema.specs.Rows.{index_at, level_at, startup_at, lifecycle_at};
 
@@ -110,8 +110,9 @@ impl<const T: u8> PortEntry<T> {
         PortEntry(PortIndex(0))
     }
 
-    pub fn row(e: Enclave, i: u32) -> Self
-        requires { T < tables }
+    pub fn row(e: Enclave, i: usize) -> Self
+        requires known { T < tables }
+        requires within { i < 2 ^ 33 }
         ensures { result.0.0 ≡ index_at e.entry.pack.bytes.now (start_of e.entry.starts.now T + i) }
     {
         let n = e.record(T, i);
@@ -135,8 +136,9 @@ impl<const T: u8> ActionEntry<T> {
         ActionEntry(ActionIndex(0))
     }
 
-    pub fn row(e: Enclave, i: u32) -> Self
-        requires { T < tables }
+    pub fn row(e: Enclave, i: usize) -> Self
+        requires known { T < tables }
+        requires within { i < 2 ^ 33 }
         ensures { result.0.0 ≡ index_at e.entry.pack.bytes.now (start_of e.entry.starts.now T + i) }
     {
         let n = e.record(T, i);
@@ -160,8 +162,9 @@ impl<const T: u8> ModeEntry<T> {
         ModeEntry(ModeIndex(0))
     }
 
-    pub fn row(e: Enclave, i: u32) -> Self
-        requires { T < tables }
+    pub fn row(e: Enclave, i: usize) -> Self
+        requires known { T < tables }
+        requires within { i < 2 ^ 33 }
         ensures { result.0.0 ≡ index_at e.entry.pack.bytes.now (start_of e.entry.starts.now T + i) }
     {
         let n = e.record(T, i);
@@ -185,8 +188,9 @@ impl<const T: u8> ScopeEntry<T> {
         ScopeEntry(ScopeIndex(0))
     }
 
-    pub fn row(e: Enclave, i: u32) -> Self
-        requires { T < tables }
+    pub fn row(e: Enclave, i: usize) -> Self
+        requires known { T < tables }
+        requires within { i < 2 ^ 33 }
         ensures { result.0.0 ≡ index_at e.entry.pack.bytes.now (start_of e.entry.starts.now T + i) }
     {
         let n = e.record(T, i);
@@ -210,8 +214,9 @@ impl<const T: u8> LevelEntry<T> {
         LevelEntry(LevelReactionImage::empty())
     }
 
-    pub fn row(e: Enclave, i: u32) -> Self
-        requires { T < tables }
+    pub fn row(e: Enclave, i: usize) -> Self
+        requires known { T < tables }
+        requires within { i < 2 ^ 33 }
         ensures { result.0 ≡ level_at e.entry.pack.bytes.now (start_of e.entry.starts.now T + i) }
     {
         let n = e.record(T, i);
@@ -235,8 +240,9 @@ impl<const T: u8> StartupEntry<T> {
         StartupEntry(TimerStartupImage::empty())
     }
 
-    pub fn row(e: Enclave, i: u32) -> Self
-        requires { T < tables }
+    pub fn row(e: Enclave, i: usize) -> Self
+        requires known { T < tables }
+        requires within { i < 2 ^ 33 }
         ensures { result.0 ≡ startup_at e.entry.pack.bytes.now (start_of e.entry.starts.now T + i) }
     {
         let n = e.record(T, i);
@@ -260,8 +266,9 @@ impl<const T: u8> LifecycleEntry<T> {
         LifecycleEntry(LifecycleReactionImage::empty())
     }
 
-    pub fn row(e: Enclave, i: u32) -> Self
-        requires { T < tables }
+    pub fn row(e: Enclave, i: usize) -> Self
+        requires known { T < tables }
+        requires within { i < 2 ^ 33 }
         ensures { result.0 ≡ lifecycle_at e.entry.pack.bytes.now (start_of e.entry.starts.now T + i) }
     {
         let n = e.record(T, i);

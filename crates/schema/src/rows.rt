@@ -256,7 +256,7 @@ impl ReactorImage {
     pub fn row(e: Enclave, i: ReactorIndex) -> Self
         ensures { result ≡ reactor_at e.entry.pack.bytes.now (start_of e.entry.starts.now 2 + i.0) }
     {
-        Self::at(e.pack, e.record(ReactorImage::TABLE, i.0))
+        Self::at(e.pack, e.record(ReactorImage::TABLE, i.0 as usize))
     }
 
     fn inside(pack: Pack, n: usize) -> Self
@@ -307,7 +307,7 @@ impl ActionImage {
     pub fn row(e: Enclave, i: ActionIndex) -> Self
         ensures { result ≡ action_at e.entry.pack.bytes.now (start_of e.entry.starts.now 3 + i.0) }
     {
-        Self::at(e.pack, e.record(ActionImage::TABLE, i.0))
+        Self::at(e.pack, e.record(ActionImage::TABLE, i.0 as usize))
     }
 
     fn inside(pack: Pack, n: usize) -> Self
@@ -352,7 +352,7 @@ impl PortImage {
     pub fn row(e: Enclave, i: PortIndex) -> Self
         ensures { result ≡ port_at e.entry.pack.bytes.now (start_of e.entry.starts.now 4 + i.0) }
     {
-        Self::at(e.pack, e.record(PortImage::TABLE, i.0))
+        Self::at(e.pack, e.record(PortImage::TABLE, i.0 as usize))
     }
 
     fn inside(pack: Pack, n: usize) -> Self
@@ -401,7 +401,7 @@ impl ReactionImage {
     pub fn row(e: Enclave, i: ReactionIndex) -> Self
         ensures { result ≡ reaction_at e.entry.pack.bytes.now (start_of e.entry.starts.now 5 + i.0) }
     {
-        Self::at(e.pack, e.record(ReactionImage::TABLE, i.0))
+        Self::at(e.pack, e.record(ReactionImage::TABLE, i.0 as usize))
     }
 
     fn inside(pack: Pack, n: usize) -> Self
@@ -450,7 +450,7 @@ impl ModeImage {
     pub fn row(e: Enclave, i: ModeIndex) -> Self
         ensures { result ≡ mode_at e.entry.pack.bytes.now (start_of e.entry.starts.now 6 + i.0) }
     {
-        Self::at(e.pack, e.record(ModeImage::TABLE, i.0))
+        Self::at(e.pack, e.record(ModeImage::TABLE, i.0 as usize))
     }
 
     fn inside(pack: Pack, n: usize) -> Self
@@ -497,7 +497,7 @@ impl ScopeImage {
     pub fn row(e: Enclave, i: ScopeIndex) -> Self
         ensures { result ≡ scope_at e.entry.pack.bytes.now (start_of e.entry.starts.now 7 + i.0) }
     {
-        Self::at(e.pack, e.record(ScopeImage::TABLE, i.0))
+        Self::at(e.pack, e.record(ScopeImage::TABLE, i.0 as usize))
     }
 
     fn inside(pack: Pack, n: usize) -> Self
@@ -548,7 +548,7 @@ impl RouteImage {
     pub fn row(e: Enclave, i: u32) -> Self
         ensures { result ≡ route_at e.entry.pack.bytes.now (start_of e.entry.starts.now 23 + i) }
     {
-        Self::at(e.pack, e.record(RouteImage::TABLE, i))
+        Self::at(e.pack, e.record(RouteImage::TABLE, i as usize))
     }
 
     fn inside(pack: Pack, n: usize) -> Self
@@ -592,7 +592,7 @@ impl RequiredBindingImage {
     pub fn row(e: Enclave, i: BindingSlotIndex) -> Self
         ensures { result ≡ binding_at e.entry.pack.bytes.now (start_of e.entry.starts.now 24 + i.0) }
     {
-        Self::at(e.pack, e.record(RequiredBindingImage::TABLE, i.0))
+        Self::at(e.pack, e.record(RequiredBindingImage::TABLE, i.0 as usize))
     }
 
     fn inside(pack: Pack, n: usize) -> Self

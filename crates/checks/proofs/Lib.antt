@@ -1,4 +1,0 @@
-pub mod FoundLaws
-pub mod RowLaws
-pub mod PassedLaws
-pub mod RangeLaws

@@ -1,0 +1,9 @@
+use Rattle.answers.proofs.Loops.{Remaining}
+use Rattle.checks.specs.Image.{image_of}
+use Rattle.checks.specs.Lists.{lifecycle_checks}
+use Rattle.checks.proofs.lists.validate_lifecycle.Given as goal
+
+abbrev pub invariant-loop-k : goal.invariant-loop-k
+invariant-loop-k g l =
+    let m = image_of l.e in
+    Remaining (lifecycle_checks m.rows m.reactions m.lifecycles g.row.T l.range.start) l.k l.range.len
