@@ -33,7 +33,7 @@ end_within (End e) n = leb e n
 end_within NoEnd n = false
 
 -- the range or span of row i of table t in the field f lies in table g, and not before the end of the row before
-abbrev pub span_checks : (ℕ → ℕ) → ℕ → ℕ → ℕ → ℕ → ℕ → ℕ → ℕ → List Check
+unfoldable pub span_checks : (ℕ → ℕ) → ℕ → ℕ → ℕ → ℕ → ℕ → ℕ → ℕ → List Check
 span_checks rows t i f g start len previous =
     need (end_within (checked_end start len) (rows g)) (RangeOutOfBounds t i f g start len)
     ∷ need (leb previous start) (RangesNotMonotonic t i f start previous)

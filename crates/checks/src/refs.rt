@@ -145,6 +145,7 @@ pub fn check_binding_ref(
 }
 
 // A span against its table and the end of the row before.
+#[tactic(auto, unfolding(answers::specs::Checks::first, crate::specs::Refs::span_checks))]
 pub fn check_enclave_span(
     e: Enclave,
     table: u8,

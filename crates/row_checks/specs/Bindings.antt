@@ -17,6 +17,6 @@ abbrev pub same_kind : BindingKind → BindingKind → Bool
 same_kind a b = eqb (kind_number a) (kind_number b)
 
 -- row i of table t names binding v in the field f, which must be of the given kind
-abbrev pub binding_checks : (ℕ → ℕ) → (ℕ → RequiredBindingImage) → ℕ → ℕ → ℕ → BindingKind → ℕ → List Check
+unfoldable pub binding_checks : (ℕ → ℕ) → (ℕ → RequiredBindingImage) → ℕ → ℕ → ℕ → BindingKind → ℕ → List Check
 binding_checks rows bindings t i f kind v =
     ref_to rows t i f 24 v ∷ need (same_kind (bindings v).kind kind) (BindingKindMismatch t i f) ∷ []

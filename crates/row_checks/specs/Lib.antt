@@ -2,5 +2,4 @@ pub mod Bindings
 pub mod Reactors
 pub mod Actions
 pub mod Ports
-pub mod Reactions
 pub mod Modes

@@ -17,7 +17,7 @@ use Rattle.checks.specs.Refs.{ref_to, span_checks, span_end, end_before}
 use Rattle.row_checks.specs.Bindings.{binding_checks}
 
 -- a slot check: row i of table t uses a slot below the bound
-abbrev pub slot_checks : ℕ → ℕ → ℕ → ℕ → List Check
+unfoldable pub slot_checks : ℕ → ℕ → ℕ → ℕ → List Check
 slot_checks t bound i slot = need (ltb slot bound) (StorageBoundExceeded t i slot bound) ∷ []
 
 abbrev pub is_no_mode : MaybeMode → Bool
@@ -25,21 +25,21 @@ is_no_mode NoMode = true
 is_no_mode (Mode m) = false
 
 -- the root scope is the reactor's own, and no mode's
-abbrev pub root_scope_checks : (ℕ → ℕ) → (ℕ → ScopeImage) → ℕ → ℕ → List Check
+unfoldable pub root_scope_checks : (ℕ → ℕ) → (ℕ → ScopeImage) → ℕ → ℕ → List Check
 root_scope_checks rows scopes i v =
     ref_to rows 2 i field.root_scope 7 v
     ∷ need (eqb (scopes v).reactor.0 i && is_no_mode (scopes v).mode) (OwnershipMismatch 2 i field.root_scope)
     ∷ []
 
 -- the initial mode is there, and one of the reactor's
-abbrev pub initial_mode_checks : (ℕ → ℕ) → ℕ → IndexSpan → MaybeMode → List Check
+unfoldable pub initial_mode_checks : (ℕ → ℕ) → ℕ → IndexSpan → MaybeMode → List Check
 initial_mode_checks rows i span NoMode = []
 initial_mode_checks rows i span (Mode m) =
     ref_to rows 2 i field.initial_mode 6 m.0
     ∷ need (contains span.start span.len m.0) (OwnershipMismatch 2 i field.initial_mode)
     ∷ []
 
-abbrev pub bank_checks : ℕ → MaybeBank → List Check
+unfoldable pub bank_checks : ℕ → MaybeBank → List Check
 bank_checks i NoBank = []
 bank_checks i (Bank b) = need (ltb b.index b.total) (InvalidBankInfo i b.index b.total) ∷ []
 
