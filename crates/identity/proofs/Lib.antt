@@ -8,4 +8,3 @@ pub mod Valid
 pub mod Order
 pub mod Text
 pub mod Window
-pub mod Short

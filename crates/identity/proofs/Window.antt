@@ -13,7 +13,7 @@ use Rattle.identity.specs.Unicode.{control}
 use Rattle.identity.specs.Scan.{ascii, printable, Run, Passed, utf8_from, id_from}
 use Rattle.identity.specs.Window.{due, low_after, second, starts, fits_at, quiet_at}
 use Rattle.identity.proofs.Tests.{cases, below_or_not, failed, both, neither, or-true, within-true, within-above}
-use Rattle.identity.proofs.Steps.{every-at}
+use Rattle.identity.proofs.Steps.{every-at, passed_none}
 use Rattle.identity.proofs.Unicode.{printable-no-control}
 use Rattle.identity.proofs.Scalar.{ascii-scalar, by_two, by_three, by-four, Follows, follow, is-follow, checked-scalar, width-at}
 use Rattle.identity.proofs.Utf8 as utf8
@@ -268,3 +268,5 @@ module _ (any : Bool) (s : List ℕ) (i k w : ℕ) (l : 3 ≤ i) (run : Run (fit
       let x : eqb j 0 ≡ false = ne_eqb j 0 (λ y. omega arith) in
       let y : eqb (j + n) (length s) ≡ false = ne_eqb (j + n) (length s) (λ y. omega arith) in
       valid.over-scalar s j (omega arith) e (rw (f none, x, y)))
+
+pub ruleset passed_laws = (passed_none, passed-utf8, passed-id)
