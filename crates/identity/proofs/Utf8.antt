@@ -8,8 +8,10 @@ use native.Mathlib.Omega.{arith}
 use lib.ListN.{length, get_or, drop}
 use Rattle.identity.specs.declared.decode.Decoded.TheVariants.{Scalar, Malformed}
 use Rattle.identity.specs.Utf8.{Scalars, some, none, before, is_some, decode, utf8, scalar_at}
-use Rattle.identity.specs.Scan.{within_at, Run, Stepped, Kept, utf8_from}
-use Rattle.identity.proofs.Tests.{within-true}
+use Rattle.identity.specs.Scan.{ascii_at, Run, Stepped, Kept, utf8_from}
+use Rattle.identity.proofs.Tests.{both}
+use lib.Dec.{ltb}
+use borrow.Author.Tests.{ltb-true}
 use Rattle.identity.proofs.Steps.{along, stopped, moved, passed-step, kept_laws}
 use Rattle.identity.proofs.Scalar.{ascii-scalar, width-at, ends_at, decode-at, decode-malformed, decode-end}
 
@@ -35,14 +37,14 @@ pub utf8-end : (s : List ℕ) (i : ℕ) → Kept (utf8 s) (utf8_from s) (length 
 utf8-end s i p h = sym (p.same ∙ ap is_some (decode-end s i h))
 
 -- a start of ASCII alone
-pub utf8-ascii : (s : List ℕ) (k : ℕ) → Run (within_at 0x00 0x7F s) 0 k (length s) → Kept (utf8 s) (utf8_from s) (length s) k
+pub utf8-ascii : (s : List ℕ) (k : ℕ) → Run (ascii_at true s) 0 k (length s) → Kept (utf8 s) (utf8_from s) (length s) k
 utf8-ascii s k p =
     let h = p.inside in
     record {
       inside = omega arith;
-      same = rw zero-add at (along (within_at 0x00 0x7F s) (λ j. utf8 s ≡ utf8_from s j) 0 k
+      same = rw zero-add at (along (ascii_at true s) (λ j. utf8 s ≡ utf8_from s j) 0 k
           (λ j _ l q r.
-          let n = (within-true 0x00 0x7F (get_or s j 0) q).1 in
+          let n = ltb-true (get_or s j 0) 0x80 (both (ltb (get_or s j 0) 0x80) true q).0 in
           r ∙ over-scalar s j (omega arith) (ascii-scalar s j (omega arith)))
           p.all refl);
     }

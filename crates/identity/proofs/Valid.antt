@@ -6,7 +6,7 @@ use Rattle.std.proofs.Common.{◌≢◌}
 use mathlib.Core.List.{List, [], ◌∷◌}
 use native.Mathlib.Nat.{zero-add}
 use native.Mathlib.Omega.{arith}
-use lib.Dec.{eqb}
+use lib.Dec.{ltb, eqb}
 use lib.ListN.{length, drop, get_or}
 use borrow.Author.Tests.{eqb-true, eqb-false, ne_eqb}
 use Rattle.identity.specs.declared.decode.Decoded.{Decoded}
@@ -14,8 +14,8 @@ use Rattle.identity.specs.declared.decode.Decoded.TheVariants.{Scalar, Malformed
 use Rattle.identity.specs.Utf8.{Scalars, some, none, before, decode, is_some, utf8, scalar_at}
 use Rattle.identity.specs.Unicode.{control, white_space}
 use Rattle.identity.specs.Identity.{no_control, last, valid_scalars, valid_text, valid_id}
-use Rattle.identity.specs.Scan.{every, within_at, refused, Run, Stepped, Kept, id_from}
-use Rattle.identity.proofs.Tests.{cases, and-false, within-true, within_in}
+use Rattle.identity.specs.Scan.{every, printable, ascii_at, refused, Run, Stepped, Kept, id_from}
+use Rattle.identity.proofs.Tests.{cases, both, and-false, within-true, within_in}
 use Rattle.identity.proofs.Unicode.{printable-no-control, visible-no-space}
 use Rattle.identity.proofs.Steps.{along, stopped, moved, every_first, passed-step, kept_laws}
 use Rattle.identity.proofs.Scalar.{ascii-scalar, width-at, ends_at, next_fits, decode-at, decode-malformed, decode-end}
@@ -135,11 +135,12 @@ id-end s i p h =
     sym (p.same ∙ rest-is (eqb i 0) (decode (drop i s)) ∙ ap (valid_rest_text (eqb i 0)) (decode-end s i h))
 
 -- a step over a printable byte, which is no blank where it is first or last
-over-printable : (s : List ℕ) (j : ℕ) → j < length s → within_at 0x20 0x7E s j ≡ true → (eqb j 0 || eqb (j + 1) (length s) ≡ true → get_or s j 0 ≢ 0x20) → id_from s j ≡ id_from s (j + 1)
+over-printable : (s : List ℕ) (j : ℕ) → j < length s → ascii_at false s j ≡ true → (eqb j 0 || eqb (j + 1) (length s) ≡ true → get_or s j 0 ≢ 0x20) → id_from s j ≡ id_from s (j + 1)
 over-printable s j h q blank =
     let v = get_or s j 0 in
-    let r = within-true 0x20 0x7E v q in
-    let c = printable-no-control v q in
+    let p = (both (ltb v 0x80) (printable v) q).1 in
+    let r = within-true 0x20 0x7E v p in
+    let c = printable-no-control v p in
     over-scalar s j h (ascii-scalar s j (omega arith))
     (cases (eqb j 0 || eqb (j + 1) (length s))
     (λ t.
@@ -148,11 +149,11 @@ over-printable s j h q blank =
     (λ f. rw (c, f)))
 
 -- a start of printable ASCII, with no blank first or last
-pub id-plain : (s : List ℕ) (k : ℕ) → k ≤ length s → every (within_at 0x20 0x7E s) 0 k ≡ true → get_or s 0 0 ≢ 0x20 → (k ≡ length s → get_or s (k - 1) 0 ≢ 0x20) → Kept (valid_id s) (id_from s) (length s) k
+pub id-plain : (s : List ℕ) (k : ℕ) → k ≤ length s → every (ascii_at false s) 0 k ≡ true → get_or s 0 0 ≢ 0x20 → (k ≡ length s → get_or s (k - 1) 0 ≢ 0x20) → Kept (valid_id s) (id_from s) (length s) k
 id-plain s k h all first final =
     record {
       inside = h;
-      same = rw zero-add at (along (within_at 0x20 0x7E s) (λ j. valid_id s ≡ id_from s j) 0 k
+      same = rw zero-add at (along (ascii_at false s) (λ j. valid_id s ≡ id_from s j) 0 k
           (λ j _ l q r. r ∙ over-printable s j (omega arith) q (edge j (omega arith))) all refl);
     }
   where
@@ -165,7 +166,7 @@ id-plain s k h all first final =
         rw z at (final (omega arith)))
 
 -- the start that is found, k printable bytes, by its first and its last
-module _ (s : List ℕ) (k : ℕ) (p : Run (within_at 0x20 0x7E s) 0 k (length s)) where
+module _ (s : List ℕ) (k : ℕ) (p : Run (ascii_at false s) 0 k (length s)) where
   pub plain-none : Kept (valid_id s) (id_from s) (length s) 0
   plain-none = record { inside = omega arith; same = refl }
 
@@ -176,7 +177,7 @@ module _ (s : List ℕ) (k : ℕ) (p : Run (within_at 0x20 0x7E s) 0 k (length s
   plain-but_one d f =
       let h = p.inside in
       let n : (k - 1) + 1 ≡ k = omega arith in
-      id-plain s (k - 1) (omega arith) (every_first (within_at 0x20 0x7E s) 0 (k - 1) 1 (rw n p.all)) f (λ e. absurd (omega arith))
+      id-plain s (k - 1) (omega arith) (every_first (ascii_at false s) 0 (k - 1) 1 (rw n p.all)) f (λ e. absurd (omega arith))
 
 pub ruleset plain_laws = (plain-none, plain-all, plain-but_one)
 

@@ -6,21 +6,22 @@ use Rattle.identity.specs.Unicode.{control, white_space}
 use Rattle.identity.specs.Identity.{valid_text}
 use Rattle.identity.specs.Order.{compared}
 
-abbrev pub ascii : ℕ → Bool
-ascii b = ltb b 0x80
-
--- ASCII without controls: a scalar by itself, white space where it is a blank.
+-- ASCII without controls.
 abbrev pub printable : ℕ → Bool
 printable b = within 0x20 0x7E b
+
+-- ASCII, a scalar by itself; a control only where `any` may stand.
+abbrev pub ascii : Bool → ℕ → Bool
+ascii any b = ltb b 0x80 && (any || printable b)
 
 -- The k places from o pass the test.
 unfoldable pub every : (ℕ → Bool) → ℕ → ℕ → Bool
 every test o zero = true
 every test o (suc k) = every test o k && test (o + k)
 
--- Tests of a place: the byte there lies from low to high, two texts have the same byte there.
-abbrev pub within_at : ℕ → ℕ → List ℕ → ℕ → Bool
-within_at low high s i = within low high (get_or s i 0)
+-- Tests of a place: the byte there is such ASCII, two texts have the same byte there.
+abbrev pub ascii_at : Bool → List ℕ → ℕ → Bool
+ascii_at any s i = ascii any (get_or s i 0)
 
 abbrev pub same_at : List ℕ → List ℕ → ℕ → Bool
 same_at a b i = eqb (get_or a i 0) (get_or b i 0)

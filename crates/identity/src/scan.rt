@@ -2,38 +2,38 @@
 ghost use Rattle.std.specs.Prelude.{◌≡◌, true, false, ◌+◌, ◌-◌, ◌<◌, ◌≤◌, length};
 ghost use Rattle.identity.specs.Utf8.{utf8};
 ghost use Rattle.identity.specs.Identity.{valid_id};
-ghost use Rattle.identity.specs.Within.{within};
-ghost use Rattle.identity.specs.Scan.{every, within_at, refused, Run, Passed, Stepped, Kept, utf8_from, id_from};
+ghost use Rattle.identity.specs.Scan.{ascii, every, ascii_at, refused, Run, Passed, Stepped, Kept, utf8_from, id_from};
 ghost use Rattle.identity.specs.Window.{due, second, starts, fits, fits_at, quiet_at};
 
 use crate::decode::{Decoded, follows, unicode_control, unicode_whitespace, utf8_scalar};
 
-fn within(low: u8, high: u8, b: u8) -> bool
-    ensures { result ≡ within low high b }
+// ASCII; a control only where `any` may stand.
+fn ascii(any: bool, b: u8) -> bool
+    ensures { result ≡ ascii any b }
 {
-    (low <= b) & (b <= high)
+    (b < 0x80) & (any | ((0x20 <= b) & (b <= 0x7E)))
 }
 
-// Whether each of the 16 bytes from `at` lies from `low` to `high`: no branch among them, so that they are tested at once.
+// Whether each of the 16 bytes from `at` is such: no branch among them, so that they are tested at once.
 #[tactic(auto, using(crate::proofs::Steps::block_laws))]
-fn within_block(text: &[u8], at: usize, low: u8, high: u8) -> bool
+fn ascii_block(any: bool, text: &[u8], at: usize) -> bool
     requires { at + 16 ≤ length text.now }
-    ensures { result ≡ every (within_at low high text.now) at 16 }
+    ensures { result ≡ every (ascii_at any text.now) at 16 }
 {
     let mut all = true;
     for k in 0..16 {
-        all = all & within(low, high, text[at + k]);
+        all = all & ascii(any, text[at + k]);
     }
     all
 }
 
-// How many bytes at the start lie from `low` to `high`, by blocks of 16.
+// How many bytes at the start are such, by blocks of 16.
 #[tactic(auto, using(crate::proofs::Steps::start_laws))]
-fn within_blocks(text: &[u8], low: u8, high: u8) -> usize
-    ensures { Run (within_at low high text.now) 0 result (length text.now) }
+fn ascii_blocks(any: bool, text: &[u8]) -> usize
+    ensures { Run (ascii_at any text.now) 0 result (length text.now) }
 {
     let mut k = 0;
-    while 16 <= text.len() - k && within_block(text, k, low, high) {
+    while 16 <= text.len() - k && ascii_block(any, text, k) {
         k += 16;
     }
     k
@@ -41,11 +41,11 @@ fn within_blocks(text: &[u8], low: u8, high: u8) -> usize
 
 // The same to the last of them.
 #[tactic(auto, using(crate::proofs::Steps::start_laws))]
-fn within_start(text: &[u8], low: u8, high: u8) -> usize
-    ensures { Run (within_at low high text.now) 0 result (length text.now) }
+fn ascii_start(any: bool, text: &[u8]) -> usize
+    ensures { Run (ascii_at any text.now) 0 result (length text.now) }
 {
-    let mut k = within_blocks(text, low, high);
-    while k < text.len() && within(low, high, text[k]) {
+    let mut k = ascii_blocks(any, text);
+    while k < text.len() && ascii(any, text[k]) {
         k += 1;
     }
     k
@@ -72,7 +72,7 @@ fn second(any: bool, b: u8, p: u8) -> bool
 fn starts(any: bool, b: u8) -> bool
     ensures { result ≡ starts any b }
 {
-    ((b < 0x80) & (any | within(0x20, 0x7E, b))) | within(0xC2, 0xF4, b)
+    ascii(any, b) | ((0xC2 <= b) & (b <= 0xF4))
 }
 
 // Whether b fits the three bytes before it. No branch, so that 16 are tested at once.
@@ -173,7 +173,7 @@ fn utf8_step(text: &[u8], at: usize) -> usize
 pub fn is_utf8(text: &[u8]) -> bool
     ensures { result ≡ utf8 text.now }
 {
-    let mut at = within_start(text, 0x00, 0x7F);
+    let mut at = ascii_start(true, text);
     while at < text.len() {
         let width = utf8_step(text, at);
         if width == 0 {
@@ -215,7 +215,7 @@ fn id_step(text: &[u8], at: usize) -> usize
 fn plain_start(text: &[u8]) -> usize
     ensures { Kept (valid_id text.now) (id_from text.now) (length text.now) result }
 {
-    let len = within_start(text, 0x20, 0x7E);
+    let len = ascii_start(false, text);
     if len == 0 {
         return 0;
     }
