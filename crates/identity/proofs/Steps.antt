@@ -6,7 +6,7 @@ use native.Mathlib.Nat.{add-zero, zero-add, add-suc}
 use native.Mathlib.Numerals.{add-one}
 use native.Mathlib.Omega.{arith}
 use borrow.Author.Tests.{not-true}
-use Rattle.identity.specs.Scan.{every, Run, Passed, Stepped, Kept}
+use Rattle.identity.specs.Scan.{every, Run, Passed, Stepped}
 use Rattle.identity.proofs.Tests.{below_or_not, failed, both, and-true, and_assoc}
 
 every-add : (test : ℕ → Bool) (o i k : ℕ) → every test o (i + k) ≡ every test o i && every test (o + i) k
@@ -40,10 +40,6 @@ every_one test o k a b e f = rw (add-one, e, f)
 pub every_to : (test : ℕ → Bool) (o k n : ℕ) (a : Bool) → a ≡ every test o k → k ≤ n → n ≤ k → a ≡ every test o n
 every_to test o k n a e l h = let z : k ≡ n = omega arith in rw z at e
 
--- the first places of a run
-pub every_first : (test : ℕ → Bool) (o i k : ℕ) → every test o (i + k) ≡ true → every test o i ≡ true
-every_first test o i k e = (both (every test o i) (every test (o + i) k) (sym (every-add test o i k) ∙ e)).0
-
 pub ruleset block_laws = (every-none, every_one, every_to)
 
 -- the loop over blocks
@@ -54,17 +50,7 @@ run_none test o end h = record { inside = omega arith; all = refl }
 pub run-block : {test : ℕ → Bool} {o k end : ℕ} (b : Bool) → Run test o k end → b ≡ every test (o + k) 16 → b ≡ true → o + (k + 16) ≤ end → Run test o (k + 16) end
 run-block {test} {o} {k} b p e t h = record { inside = h; all = rw (every-add test o k 16, p.all) (sym e ∙ t) }
 
--- the same from the start, and one place more there
-pub start-block : {test : ℕ → Bool} {k end : ℕ} (b : Bool) → Run test 0 k end → b ≡ every test k 16 → b ≡ true → k + 16 ≤ end → Run test 0 (k + 16) end
-start-block {test} {k} b p e t h = run-block b p (rw (zero-add k) e) t (rw (zero-add (k + 16)) h)
-
-pub start-more : {test : ℕ → Bool} {k end : ℕ} (b : Bool) → Run test 0 k end → b ≡ test k → b ≡ true → k < end → Run test 0 (k + 1) end
-unfolding every
-start-more {test} {k} b p e t h = record { inside = omega arith; all = rw (add-one, p.all, zero-add k) (sym e ∙ t) }
-
 pub ruleset run_laws = (run_none, run-block)
-
-pub ruleset start_laws = (run_none, start-block, start-more)
 
 -- what passes over each place of a run passes over all of them
 pub along : (test : ℕ → Bool) (P : ℕ → Type 0) (o k : ℕ) → ((j : ℕ) → o ≤ j → j < o + k → test j ≡ true → P j → P (j + 1)) → every test o k ≡ true → P o → P (o + k)
@@ -99,7 +85,11 @@ not_there test o k b t e n =
     below_or_not 0 k (λ h. omega arith)
     (λ h. let z : o + k ≡ o = omega arith in failed (sym (not-true b n) ∙ (e ∙ rw z t)))
 
--- what a scan keeps
+-- what a scan keeps: the whole is good exactly where the rest from i is
+pub record Kept (whole : Bool) (good : ℕ → Bool) (end i : ℕ) : Type 0 where
+  pub inside : i ≤ end
+  pub same : whole ≡ good i
+
 module _ {whole : Bool} {good : ℕ → Bool} {end i w : ℕ} (p : Kept whole good end i) (q : Stepped good end i w) where
   pub kept_on : (w ≡ 0 → ⊥) → Kept whole good end (i + w)
   kept_on d = record { inside = q.inside; same = p.same ∙ q.on d }

@@ -4,7 +4,6 @@ use mathlib.Core.Bool.{Bool, true, false, not, ◌&&◌, ◌||◌, cond}
 use mathlib.Core.Path.{◌≡◌, refl, ◌∙◌, ap, sym}
 use Rattle.std.proofs.Common.{◌≢◌}
 use mathlib.Core.List.{List, [], ◌∷◌}
-use native.Mathlib.Nat.{zero-add}
 use native.Mathlib.Omega.{arith}
 use lib.Dec.{ltb, eqb}
 use lib.ListN.{length, drop, get_or}
@@ -14,10 +13,10 @@ use Rattle.identity.specs.declared.decode.Decoded.TheVariants.{Scalar, Malformed
 use Rattle.identity.specs.Utf8.{Scalars, some, none, before, decode, is_some, utf8, scalar_at}
 use Rattle.identity.specs.Unicode.{control, white_space}
 use Rattle.identity.specs.Identity.{no_control, last, valid_scalars, valid_text, valid_id}
-use Rattle.identity.specs.Scan.{every, printable, ascii_at, refused, Run, Stepped, Kept, id_from}
+use Rattle.identity.specs.Scan.{every, printable, ascii_at, refused, Stepped, id_from}
 use Rattle.identity.proofs.Tests.{cases, both, and-false, within-true, within_in}
 use Rattle.identity.proofs.Unicode.{printable-no-control, visible-no-space}
-use Rattle.identity.proofs.Steps.{along, stopped, moved, every_first, passed-step, kept_laws}
+use Rattle.identity.proofs.Steps.{along, stopped, moved, passed-step, Kept, kept_laws}
 use Rattle.identity.proofs.Scalar.{ascii-scalar, width-at, ends_at, next_fits, decode-at, decode-malformed, decode-end}
 
 abbrev none_left : List ℕ → Bool
@@ -130,6 +129,9 @@ module _ (s : List ℕ) (i : ℕ) (h : i < length s) where
 
 pub ruleset step_laws = (passed-step, next_fits, id-malformed, id-refused, id-scalar)
 
+pub id-start : (s : List ℕ) → Kept (valid_id s) (id_from s) (length s) 0
+id-start s = record { inside = omega arith; same = refl }
+
 pub id-end : (s : List ℕ) (i : ℕ) → Kept (valid_id s) (id_from s) (length s) i → length s ≤ i → not (eqb i 0) ≡ valid_id s
 id-end s i p h =
     sym (p.same ∙ rest-is (eqb i 0) (decode (drop i s)) ∙ ap (valid_rest_text (eqb i 0)) (decode-end s i h))
@@ -148,40 +150,26 @@ over-printable s j h q blank =
     rw (c, t, visible-no-space v (within_in 0x21 0x7E v (omega arith) (omega arith))))
     (λ f. rw (c, f)))
 
--- a start of printable ASCII, with no blank first or last
-pub id-plain : (s : List ℕ) (k : ℕ) → k ≤ length s → every (ascii_at false s) 0 k ≡ true → get_or s 0 0 ≢ 0x20 → (k ≡ length s → get_or s (k - 1) 0 ≢ 0x20) → Kept (valid_id s) (id_from s) (length s) k
-id-plain s k h all first final =
-    record {
-      inside = h;
-      same = rw zero-add at (along (ascii_at false s) (λ j. valid_id s ≡ id_from s j) 0 k
-          (λ j _ l q r. r ∙ over-printable s j (omega arith) q (edge j (omega arith))) all refl);
-    }
+-- a text of printable ASCII alone, with no blank first or last
+pub id_plain : (s : List ℕ) (a : Bool) → length s ≢ 0 → get_or s 0 0 ≢ 0x20 → get_or s (length s - 1) 0 ≢ 0x20 → a ≡ every (ascii_at false s) 0 (length s) → a ≡ true → valid_id s ≡ true
+id_plain s a d first final e t =
+    let rest : valid_id s ≡ id_from s (0 + length s) =
+    along (ascii_at false s) (λ j. valid_id s ≡ id_from s j) 0 (length s)
+    (λ j _ l q r. r ∙ over-printable s j (omega arith) q (edge j))
+    (sym e ∙ t) refl
+    in
+    let f : eqb (0 + length s) 0 ≡ false = ne_eqb (0 + length s) 0 (λ z. omega arith) in
+    sym (id-end s (0 + length s) (record { inside = omega arith; same = rest }) (omega arith)) ∙ rw f
   where
-    edge : (j : ℕ) → j < k → eqb j 0 || eqb (j + 1) (length s) ≡ true → get_or s j 0 ≢ 0x20
-    edge j l w =
+    edge : (j : ℕ) → eqb j 0 || eqb (j + 1) (length s) ≡ true → get_or s j 0 ≢ 0x20
+    edge j w =
         cases (eqb j 0) (λ x. rw (eqb-true j 0 x) first)
         (λ x.
         let y = eqb-true (j + 1) (length s) (rw x at w) in
-        let z : k - 1 ≡ j = omega arith in
-        rw z at (final (omega arith)))
+        let z : length s - 1 ≡ j = omega arith in
+        rw z at final)
 
--- the start that is found, k printable bytes, by its first and its last
-module _ (s : List ℕ) (k : ℕ) (p : Run (ascii_at false s) 0 k (length s)) where
-  pub plain-none : Kept (valid_id s) (id_from s) (length s) 0
-  plain-none = record { inside = omega arith; same = refl }
-
-  pub plain-all : get_or s 0 0 ≢ 0x20 → get_or s (k - 1) 0 ≢ 0x20 → Kept (valid_id s) (id_from s) (length s) k
-  plain-all f l = let h = p.inside in id-plain s k (omega arith) p.all f (λ _. l)
-
-  pub plain-but_one : k ≢ 0 → get_or s 0 0 ≢ 0x20 → Kept (valid_id s) (id_from s) (length s) (k - 1)
-  plain-but_one d f =
-      let h = p.inside in
-      let n : (k - 1) + 1 ≡ k = omega arith in
-      id-plain s (k - 1) (omega arith) (every_first (ascii_at false s) 0 (k - 1) 1 (rw n p.all)) f (λ e. absurd (omega arith))
-
-pub ruleset plain_laws = (plain-none, plain-all, plain-but_one)
-
-pub ruleset id_laws = (id-end, kept_laws)
+pub ruleset id_laws = (id-start, id-end, kept_laws)
 
 -- a valid identity is UTF-8
 utf8-of : (x : Scalars) → valid_text x ≡ true → is_some x ≡ true

@@ -42,11 +42,6 @@ pub record Stepped (good : ℕ → Bool) (end i w : ℕ) : Type 0 where
   pub stop : w ≡ 0 → good i ≡ false
   pub on : (w ≡ 0 → ⊥) → good i ≡ good (i + w)
 
--- The whole is good exactly where the rest from i is.
-pub record Kept (whole : Bool) (good : ℕ → Bool) (end i : ℕ) : Type 0 where
-  pub inside : i ≤ end
-  pub same : whole ≡ good i
-
 -- The rest of s from i is UTF-8.
 abbrev pub utf8_from : List ℕ → ℕ → Bool
 utf8_from s i = utf8 (drop i s)

@@ -2,7 +2,7 @@
 ghost use Rattle.std.specs.Prelude.{◌≡◌, true, false, ◌+◌, ◌-◌, ◌<◌, ◌≤◌, length};
 ghost use Rattle.identity.specs.Utf8.{utf8};
 ghost use Rattle.identity.specs.Identity.{valid_id};
-ghost use Rattle.identity.specs.Scan.{ascii, every, ascii_at, refused, Run, Passed, Stepped, Kept, utf8_from, id_from};
+ghost use Rattle.identity.specs.Scan.{ascii, every, ascii_at, refused, Run, Passed, Stepped, utf8_from, id_from};
 ghost use Rattle.identity.specs.Window.{due, second, starts, fits, fits_at, quiet_at};
 
 use crate::decode::{Decoded, follows, unicode_control, unicode_whitespace, utf8_scalar};
@@ -14,41 +14,16 @@ fn ascii(any: bool, b: u8) -> bool
     (b < 0x80) & (any | ((0x20 <= b) & (b <= 0x7E)))
 }
 
-// Whether each of the 16 bytes from `at` is such: no branch among them, so that they are tested at once.
+// Whether every byte is such: no branch among them, so that many are tested at once.
 #[tactic(auto, using(crate::proofs::Steps::block_laws))]
-fn ascii_block(any: bool, text: &[u8], at: usize) -> bool
-    requires { at + 16 ≤ length text.now }
-    ensures { result ≡ every (ascii_at any text.now) at 16 }
+fn all_ascii(any: bool, text: &[u8]) -> bool
+    ensures { result ≡ every (ascii_at any text.now) 0 (length text.now) }
 {
     let mut all = true;
-    for k in 0..16 {
-        all = all & ascii(any, text[at + k]);
+    for b in text {
+        all = all & ascii(any, *b);
     }
     all
-}
-
-// How many bytes at the start are such, by blocks of 16.
-#[tactic(auto, using(crate::proofs::Steps::start_laws))]
-fn ascii_blocks(any: bool, text: &[u8]) -> usize
-    ensures { Run (ascii_at any text.now) 0 result (length text.now) }
-{
-    let mut k = 0;
-    while 16 <= text.len() - k && ascii_block(any, text, k) {
-        k += 16;
-    }
-    k
-}
-
-// The same to the last of them.
-#[tactic(auto, using(crate::proofs::Steps::start_laws))]
-fn ascii_start(any: bool, text: &[u8]) -> usize
-    ensures { Run (ascii_at any text.now) 0 result (length text.now) }
-{
-    let mut k = ascii_blocks(any, text);
-    while k < text.len() && ascii(any, text[k]) {
-        k += 1;
-    }
-    k
 }
 
 // Whether a following byte is due after p, q and r, the nearest of them first.
@@ -173,7 +148,10 @@ fn utf8_step(text: &[u8], at: usize) -> usize
 pub fn is_utf8(text: &[u8]) -> bool
     ensures { result ≡ utf8 text.now }
 {
-    let mut at = ascii_start(true, text);
+    if all_ascii(true, text) {
+        return true;
+    }
+    let mut at = 0;
     while at < text.len() {
         let width = utf8_step(text, at);
         if width == 0 {
@@ -210,22 +188,17 @@ fn id_step(text: &[u8], at: usize) -> usize
     width
 }
 
-// How many bytes at the start are printable ASCII that may stand there: none after a blank, and no blank at their end.
-#[tactic(auto, using(crate::proofs::Valid::plain_laws))]
-fn plain_start(text: &[u8]) -> usize
-    ensures { Kept (valid_id text.now) (id_from text.now) (length text.now) result }
+// Whether a text is ASCII without controls and with no blank first or last, as most identities are.
+#[tactic(auto, using(crate::proofs::Valid::id_plain))]
+fn plain(text: &[u8]) -> bool
+    ensures { result ≡ true → valid_id text.now ≡ true }
 {
-    let len = ascii_start(false, text);
-    if len == 0 {
-        return 0;
+    let len = text.len();
+    if len != 0 && text[0] != 0x20 && text[len - 1] != 0x20 {
+        all_ascii(false, text)
+    } else {
+        false
     }
-    if text[0] == 0x20 {
-        return 0;
-    }
-    if text[len - 1] == 0x20 {
-        return len - 1;
-    }
-    len
 }
 
 // Whether a text is a valid identity: UTF-8, not empty, no control, white space neither first nor last.
@@ -233,7 +206,10 @@ fn plain_start(text: &[u8]) -> usize
 pub fn valid_id(text: &[u8]) -> bool
     ensures { result ≡ valid_id text.now }
 {
-    let mut at = plain_start(text);
+    if plain(text) {
+        return true;
+    }
+    let mut at = 0;
     while at < text.len() {
         let width = id_step(text, at);
         if width == 0 {

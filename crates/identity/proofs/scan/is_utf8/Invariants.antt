@@ -1,7 +1,8 @@
 -- The text is such exactly where its rest is.
 use Rattle.std.proofs.Common.{◌-◌, length}
 use Rattle.identity.specs.Utf8.{utf8}
-use Rattle.identity.specs.Scan.{Kept, utf8_from}
+use Rattle.identity.specs.Scan.{utf8_from}
+use Rattle.identity.proofs.Steps.{Kept}
 use Rattle.identity.proofs.scan.is_utf8.Given as goal
 
 abbrev pub invariant-loop-at : goal.invariant-loop-at

@@ -1,7 +1,8 @@
 -- The text is such exactly where its rest is.
 use Rattle.std.proofs.Common.{◌-◌, length}
 use Rattle.identity.specs.Identity.{valid_id}
-use Rattle.identity.specs.Scan.{Kept, id_from}
+use Rattle.identity.specs.Scan.{id_from}
+use Rattle.identity.proofs.Steps.{Kept}
 use Rattle.identity.proofs.scan.valid_id.Given as goal
 
 abbrev pub invariant-loop-at : goal.invariant-loop-at
