@@ -1,7 +1,7 @@
 -- One scalar of a text, and the decoder on what is left. Assumes nothing.
 use Prim.Native.Nat.{ℕ, zero, suc, ◌+◌, ◌*◌, ◌-◌, ◌^◌, ◌<◌, ◌≤◌}
 use mathlib.Core.Bool.{Bool, true, ◌&&◌}
-use mathlib.Core.Path.{◌≡◌, refl, ◌∙◌, ap, sym, subst}
+use mathlib.Core.Path.{◌≡◌, refl, ◌∙◌, sym, subst}
 use mathlib.Core.List.{List, [], ◌∷◌}
 use native.Mathlib.Nat.{add-zero, zero-add}
 use native.Mathlib.Omega.{arith}
@@ -17,23 +17,13 @@ use Rattle.identity.specs.declared.decode.Decoded.{Decoded}
 use Rattle.identity.specs.declared.decode.Decoded.TheVariants.{Scalar, Malformed}
 use Rattle.identity.specs.Utf8.{allowed, follows, checked, value_of_two, value_of_three, value_of_four, two_bytes, three_bytes, four_bytes, scalar_of, scalar_at}
 use Rattle.identity.specs.Utf8.{some, none, before, in_front, decode_after, decode}
-use Rattle.identity.proofs.Tests.{cases, both, within-true, within_in, within-below, within-above}
+use Rattle.identity.proofs.Tests.{cases, both, within-true, within_in, within-above}
 
 -- the scalar at a place, by its first byte
 module _ (s : List ℕ) (i : ℕ) where
   pub one_byte : (v : ℕ) → get_or s i 0 < 0x80 → v ≡ get_or s i 0 → Scalar v 1 ≡ scalar_at s i
   unfolding scalar_at
   one_byte v h e = rw (e, within_in 0x00 0x7F (get_or s i 0) (omega arith) (omega arith))
-
-  pub no-first : 0x80 ≤ get_or s i 0 → get_or s i 0 < 0xC2 → Malformed ≡ scalar_at s i
-  unfolding scalar_at
-  no-first l h =
-      rw (
-        within-above 0x00 0x7F (get_or s i 0) (omega arith),
-        within-below 0xC2 0xDF (get_or s i 0) h,
-        within-below 0xE0 0xEF (get_or s i 0) (omega arith),
-        within-below 0xF0 0xF4 (get_or s i 0) (omega arith),
-      )
 
   pub by_two : (b : ℕ) (x : Decoded) → 0xC2 ≤ get_or s i 0 → get_or s i 0 < 0xE0 → b ≡ get_or s (i + 1) 0 → x ≡ two_bytes (get_or s i 0) b → x ≡ scalar_at s i
   unfolding scalar_at
@@ -70,16 +60,6 @@ module _ (s : List ℕ) (i : ℕ) where
         ← ed,
       )
       e
-
-  pub past_first : 0xF5 ≤ get_or s i 0 → Malformed ≡ scalar_at s i
-  unfolding scalar_at
-  past_first l =
-      rw (
-        within-above 0x00 0x7F (get_or s i 0) (omega arith),
-        within-above 0xC2 0xDF (get_or s i 0) (omega arith),
-        within-above 0xE0 0xEF (get_or s i 0) (omega arith),
-        within-above 0xF0 0xF4 (get_or s i 0) l,
-      )
 
 pub ascii-scalar : (s : List ℕ) (i : ℕ) → get_or s i 0 < 0x80 → scalar_at s i ≡ Scalar (get_or s i 0) 1
 ascii-scalar s i h = sym (one_byte s i (get_or s i 0) h refl)

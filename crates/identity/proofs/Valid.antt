@@ -10,7 +10,7 @@ use lib.ListN.{length, drop, get_or}
 use borrow.Author.Tests.{eqb-true, eqb-false, ne_eqb}
 use Rattle.identity.specs.declared.decode.Decoded.{Decoded}
 use Rattle.identity.specs.declared.decode.Decoded.TheVariants.{Scalar, Malformed}
-use Rattle.identity.specs.Utf8.{Scalars, some, none, before, decode, is_some, utf8, scalar_at}
+use Rattle.identity.specs.Utf8.{Scalars, some, none, before, decode, scalar_at}
 use Rattle.identity.specs.Unicode.{control, white_space}
 use Rattle.identity.specs.Identity.{no_control, last, valid_scalars, valid_text, valid_id}
 use Rattle.identity.specs.Scan.{every, printable, ascii_at, refused, Stepped, id_from}
@@ -170,11 +170,3 @@ id_plain s a d first final e t =
         rw z at final)
 
 pub ruleset id_laws = (id-start, id-end, kept_laws)
-
--- a valid identity is UTF-8
-utf8-of : (x : Scalars) → valid_text x ≡ true → is_some x ≡ true
-utf8-of (some vs) e = refl
-utf8-of none e = e
-
-pub valid-is-utf8 : (s : List ℕ) → valid_id s ≡ true → utf8 s ≡ true
-valid-is-utf8 s e = utf8-of (decode s) e

@@ -1,5 +1,5 @@
 -- Both texts are the same before i.
-use Rattle.std.proofs.Common.{◌+◌, ◌-◌, length}
+use Rattle.std.proofs.Common.{◌-◌, length}
 use Rattle.identity.specs.Scan.{Tied}
 use Rattle.identity.proofs.compare.past_same.Given as goal
 
