@@ -9,7 +9,7 @@ use crate::{ByteOrder, IdentityPlace};
 
 // Whether 16 bytes of both from `at` are the same: no branch among them, so that they are compared at once.
 #[tactic(auto, using(crate::proofs::Steps::block_laws))]
-fn same_block<'a>(left: &'a [u8], right: &'a [u8], at: usize) -> bool
+fn same_block(left: &[u8], right: &[u8], at: usize) -> bool
     requires left_inside { at + 16 ≤ length left.now }
     requires right_inside { at + 16 ≤ length right.now }
     ensures { result ≡ every (same_at left.now right.now) at 16 }
@@ -23,7 +23,7 @@ fn same_block<'a>(left: &'a [u8], right: &'a [u8], at: usize) -> bool
 
 // A place up to which both are the same, by blocks of 16.
 #[tactic(auto, using(crate::proofs::Order::order_laws))]
-fn past_same<'a>(left: &'a [u8], right: &'a [u8]) -> usize
+fn past_same(left: &[u8], right: &[u8]) -> usize
     ensures { Tied left.now right.now result }
 {
     let mut i = 0;
@@ -35,7 +35,7 @@ fn past_same<'a>(left: &'a [u8], right: &'a [u8]) -> usize
 
 // The order of two texts, by blocks while they are the same and then byte by byte.
 #[tactic(auto, using(crate::proofs::Order::order_laws))]
-pub fn compare_bytes<'a>(left: &'a [u8], right: &'a [u8]) -> ByteOrder
+pub fn compare_bytes(left: &[u8], right: &[u8]) -> ByteOrder
     ensures { result ≡ compared left.now right.now }
 {
     for i in past_same(left, right)..left.len() {
@@ -57,9 +57,9 @@ pub fn compare_bytes<'a>(left: &'a [u8], right: &'a [u8]) -> ByteOrder
 }
 
 // The order of two identities by byte, a place outside counting as empty.
-pub fn compare_places<'a>(
-    batch: &'a [u8],
-    house: &'a [u8],
+pub fn compare_places(
+    batch: &[u8],
+    house: &[u8],
     left: IdentityPlace,
     right: IdentityPlace,
 ) -> ByteOrder
@@ -72,12 +72,7 @@ pub fn compare_places<'a>(
 }
 
 // The same as a number: -1, 0 or 1.
-pub fn compare_utf8<'a>(
-    batch: &'a [u8],
-    house: &'a [u8],
-    left: IdentityPlace,
-    right: IdentityPlace,
-) -> i8
+pub fn compare_utf8(batch: &[u8], house: &[u8], left: IdentityPlace, right: IdentityPlace) -> i8
     ensures { result ≡ sign (compared (identity_text batch.now house.now left) (identity_text batch.now house.now right)) }
 {
     match compare_places(batch, house, left, right) {

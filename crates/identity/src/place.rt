@@ -27,7 +27,7 @@ fn named_text<'a>(batch: &'a [u8], house: &'a [u8], place: IdentityPlace) -> &'a
 }
 
 // Whether a place is inside its text.
-pub fn place_inside<'a>(batch: &'a [u8], house: &'a [u8], place: IdentityPlace) -> bool
+pub fn place_inside(batch: &[u8], house: &[u8], place: IdentityPlace) -> bool
     ensures { result ≡ place_inside batch.now house.now place }
 {
     let text = named_text(batch, house, place);
