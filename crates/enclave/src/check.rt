@@ -1,1 +1,79 @@
+// The check of an enclave: packing, then the passes, with the links of its scopes.
+ghost use Rattle.std.specs.Prelude.{◌≡◌, ◌++◌};
+ghost use Rattle.answers.specs.Checks.{first, run};
+ghost use Rattle.scope_checks.specs.Scopes.{scope_checks};
+ghost use Rattle.enclave.specs.Passes.{head_passes, row_passes, reaction_list_passes, scope_list_passes, entry_passes, enclave_list_passes, checks_of};
+ghost use Rattle.checks.specs.Image.{image_of};
+ghost use Rattle.enclave.specs.Answer.{answer_numbers, outcome_answer, image_result, enclave_answer};
 
+use crate::EnclaveAnswer;
+use crate::passes::{check_enclave_lists, check_entries, check_head, check_reaction_lists, check_rows, check_scope_tables};
+use answers::Outcome;
+use schema::lent::Enclave;
+use scope_checks::links::{Parents, check_parents};
+use scope_checks::scopes::check_scopes;
+
+// A refusal, passed up.
+pub fn refused(outcome: Outcome) -> EnclaveAnswer
+    ensures { result ≡ outcome_answer outcome }
+{
+    match outcome {
+        Outcome::Passed => EnclaveAnswer::Accepted { links: 0 },
+        Outcome::Refused(r) => EnclaveAnswer::Refused(r),
+    }
+}
+
+// The passes up to the rows of scopes.
+#[tactic(auto, using(answers::proofs::Laws::list_laws))]
+fn check_tables(e: Enclave) -> Outcome
+    ensures { let m = image_of e.entry in result ≡ first (checks_of m head_passes ++ (checks_of m row_passes ++ run (scope_checks m) 0 (m.rows 7))) }
+{
+    let head = check_head(e);
+    let Outcome::Passed = head else {
+        return head;
+    };
+    let rows = check_rows(e);
+    let Outcome::Passed = rows else {
+        return rows;
+    };
+    check_scopes(e)
+}
+
+// The passes after the walk of the parents.
+#[tactic(auto, using(answers::proofs::Laws::list_laws))]
+fn check_lists(e: Enclave) -> Outcome
+    ensures { let m = image_of e.entry in result ≡ first (checks_of m reaction_list_passes ++ (checks_of m scope_list_passes ++ (checks_of m entry_passes ++ checks_of m enclave_list_passes))) }
+{
+    let reactions = check_reaction_lists(e);
+    let Outcome::Passed = reactions else {
+        return reactions;
+    };
+    let scopes = check_scope_tables(e);
+    let Outcome::Passed = scopes else {
+        return scopes;
+    };
+    let entries = check_entries(e);
+    let Outcome::Passed = entries else {
+        return entries;
+    };
+    check_enclave_lists(e)
+}
+
+// The passes in their order, with the links that the walk of the parents counts.
+pub fn check_image(e: Enclave) -> EnclaveAnswer
+    ensures { result ≡ image_result (image_of e.entry) }
+{
+    let tables = check_tables(e);
+    let Outcome::Passed = tables else {
+        return refused(tables);
+    };
+    let links = match check_parents(e) {
+        Parents::Links(links) => links,
+        Parents::Refused(r) => return EnclaveAnswer::Refused(r),
+    };
+    let lists = check_lists(e);
+    let Outcome::Passed = lists else {
+        return refused(lists);
+    };
+    EnclaveAnswer::Accepted { links }
+}

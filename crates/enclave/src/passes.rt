@@ -8,10 +8,17 @@ ghost use Rattle.enclave.specs.Passes.{length_table, length_checks, root_checks,
 use answers::{Outcome, field, kind};
 use checks::identities::validate_id;
 use checks::refs::{check_enclave_len, check_reactor_ref};
-use list_checks::list_tables::{check_action_entries, check_mode_entries, check_port_entries, check_scope_entries};
+use list_checks::level_lists::{check_action_triggers, check_level_entries, check_lifecycle_entries, check_port_triggers, check_scope_lists, check_shutdown_reactions};
+use list_checks::list_tables::{check_action_entries, check_enabled_modes, check_mode_entries, check_port_entries, check_scope_entries, check_shutdown_actions, check_startup_entries};
+use list_checks::routes::{check_bindings, check_routes};
+use row_checks::actions::check_actions;
+use row_checks::modes::check_modes;
+use row_checks::ports::check_ports;
+use row_checks::reactions::check_reactions;
+use row_checks::reactors::check_reactors;
 use schema::index::ReactorIndex;
 use schema::lent::Enclave;
-use schema::lists::{ReactionAction, ReactionEffectPort, ReactionMode, ReactionUsePort};
+use schema::lists::{ReactionAction, ReactionEffectPort, ReactionMode, ReactionTrigger, ReactionUsePort, ScopeDescendant, ScopeLogicalAction, ScopeResetReaction, ScopeShutdownReaction, ScopeStartupReaction, ScopeTimerStartup, StartupAction, TimerStartupAction};
 use schema::rows::EnclaveImage;
 
 // The tables whose length is checked: 2 to 7, 23 and 24.
@@ -41,15 +48,180 @@ fn check_lengths(e: Enclave) -> Outcome
     Outcome::Passed
 }
 
+#[tactic(auto, unfolding(answers::specs::Checks::first, answers::specs::Checks::run))]
 fn check_root(e: Enclave) -> Outcome
-    ensures { result ≡ first (root_checks (image_of e.entry) 0) }
+    ensures { result ≡ first (run (root_checks (image_of e.entry)) 0 1) }
 {
     check_reactor_ref(e, EnclaveImage::TABLE, 0, field::ROOT_REACTOR, ReactorIndex(0)).refused()
 }
 
+#[tactic(auto, unfolding(answers::specs::Checks::first, answers::specs::Checks::run))]
 fn check_enclave_id(e: Enclave) -> Outcome
-    ensures { result ≡ first (enclave_id_checks (image_of e.entry) 0) }
+    ensures { result ≡ first (run (enclave_id_checks (image_of e.entry)) 0 1) }
 {
     validate_id(e, kind::ENCLAVE, 0, EnclaveImage::at(e.pack, 0).enclave_id)
 }
 
+// Table lengths, root reactor, identity.
+#[tactic(
+    auto,
+    using(answers::proofs::Laws::list_laws),
+    unfolding(answers::specs::Checks::first, crate::specs::Passes::checks_of, crate::specs::Passes::pass_checks, crate::specs::Passes::head_passes)
+)]
+pub fn check_head(e: Enclave) -> Outcome
+    ensures { result ≡ first (checks_of (image_of e.entry) head_passes) }
+{
+    let lengths = check_lengths(e);
+    let Outcome::Passed = lengths else {
+        return lengths;
+    };
+    let root = check_root(e);
+    let Outcome::Passed = root else {
+        return root;
+    };
+    check_enclave_id(e)
+}
+
+// The rows but for those of scopes.
+#[tactic(
+    auto,
+    using(answers::proofs::Laws::list_laws),
+    unfolding(answers::specs::Checks::first, crate::specs::Passes::checks_of, crate::specs::Passes::pass_checks, crate::specs::Passes::row_passes)
+)]
+pub fn check_rows(e: Enclave) -> Outcome
+    ensures { result ≡ first (checks_of (image_of e.entry) row_passes) }
+{
+    let reactors = check_reactors(e);
+    let Outcome::Passed = reactors else {
+        return reactors;
+    };
+    let actions = check_actions(e);
+    let Outcome::Passed = actions else {
+        return actions;
+    };
+    let ports = check_ports(e);
+    let Outcome::Passed = ports else {
+        return ports;
+    };
+    let reactions = check_reactions(e);
+    let Outcome::Passed = reactions else {
+        return reactions;
+    };
+    check_modes(e)
+}
+
+// The lists of actions, ports and reactions.
+#[tactic(
+    auto,
+    using(answers::proofs::Laws::list_laws),
+    unfolding(answers::specs::Checks::first, crate::specs::Passes::checks_of, crate::specs::Passes::pass_checks, crate::specs::Passes::reaction_list_passes)
+)]
+pub fn check_reaction_lists(e: Enclave) -> Outcome
+    ensures { result ≡ first (checks_of (image_of e.entry) reaction_list_passes) }
+{
+    let action_triggers = check_action_triggers(e);
+    let Outcome::Passed = action_triggers else {
+        return action_triggers;
+    };
+    let port_triggers = check_port_triggers(e);
+    let Outcome::Passed = port_triggers else {
+        return port_triggers;
+    };
+    let use_ports = check_port_entries::<{ ReactionUsePort::TABLE }>(e);
+    let Outcome::Passed = use_ports else {
+        return use_ports;
+    };
+    let effect_ports = check_port_entries::<{ ReactionEffectPort::TABLE }>(e);
+    let Outcome::Passed = effect_ports else {
+        return effect_ports;
+    };
+    let actions = check_action_entries::<{ ReactionAction::TABLE }>(e);
+    let Outcome::Passed = actions else {
+        return actions;
+    };
+    let modes = check_mode_entries::<{ ReactionMode::TABLE }>(e);
+    let Outcome::Passed = modes else {
+        return modes;
+    };
+    check_enabled_modes(e)
+}
+
+// The lists of scopes.
+#[tactic(
+    auto,
+    using(answers::proofs::Laws::list_laws),
+    unfolding(answers::specs::Checks::first, crate::specs::Passes::checks_of, crate::specs::Passes::pass_checks, crate::specs::Passes::scope_list_passes)
+)]
+pub fn check_scope_tables(e: Enclave) -> Outcome
+    ensures { result ≡ first (checks_of (image_of e.entry) scope_list_passes) }
+{
+    let descendants = check_scope_entries::<{ ScopeDescendant::TABLE }>(e);
+    let Outcome::Passed = descendants else {
+        return descendants;
+    };
+    let actions = check_action_entries::<{ ScopeLogicalAction::TABLE }>(e);
+    let Outcome::Passed = actions else {
+        return actions;
+    };
+    let timers = check_startup_entries::<{ ScopeTimerStartup::TABLE }>(e);
+    let Outcome::Passed = timers else {
+        return timers;
+    };
+    check_scope_lists(e)
+}
+
+// Every entry of the tables that ranges lead to.
+#[tactic(
+    auto,
+    using(answers::proofs::Laws::list_laws),
+    unfolding(answers::specs::Checks::first, crate::specs::Passes::checks_of, crate::specs::Passes::pass_checks, crate::specs::Passes::entry_passes)
+)]
+pub fn check_entries(e: Enclave) -> Outcome
+    ensures { result ≡ first (checks_of (image_of e.entry) entry_passes) }
+{
+    let triggers = check_level_entries::<{ ReactionTrigger::TABLE }>(e);
+    let Outcome::Passed = triggers else {
+        return triggers;
+    };
+    let resets = check_level_entries::<{ ScopeResetReaction::TABLE }>(e);
+    let Outcome::Passed = resets else {
+        return resets;
+    };
+    let startups = check_lifecycle_entries::<{ ScopeStartupReaction::TABLE }>(e);
+    let Outcome::Passed = startups else {
+        return startups;
+    };
+    check_lifecycle_entries::<{ ScopeShutdownReaction::TABLE }>(e)
+}
+
+// The lists of the enclave itself, routes and bindings.
+#[tactic(
+    auto,
+    using(answers::proofs::Laws::list_laws),
+    unfolding(answers::specs::Checks::first, crate::specs::Passes::checks_of, crate::specs::Passes::pass_checks, crate::specs::Passes::enclave_list_passes)
+)]
+pub fn check_enclave_lists(e: Enclave) -> Outcome
+    ensures { result ≡ first (checks_of (image_of e.entry) enclave_list_passes) }
+{
+    let startups = check_startup_entries::<{ StartupAction::TABLE }>(e);
+    let Outcome::Passed = startups else {
+        return startups;
+    };
+    let timers = check_startup_entries::<{ TimerStartupAction::TABLE }>(e);
+    let Outcome::Passed = timers else {
+        return timers;
+    };
+    let reactions = check_shutdown_reactions(e);
+    let Outcome::Passed = reactions else {
+        return reactions;
+    };
+    let actions = check_shutdown_actions(e);
+    let Outcome::Passed = actions else {
+        return actions;
+    };
+    let routes = check_routes(e);
+    let Outcome::Passed = routes else {
+        return routes;
+    };
+    check_bindings(e)
+}

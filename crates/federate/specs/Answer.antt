@@ -6,7 +6,7 @@ use Rattle.answers.specs.Numbers.{numbers}
 use Rattle.answers.specs.Checks.{first}
 use Rattle.packing.specs.declared.PackKind.TheVariants.{Federate}
 use Rattle.packing.specs.Packing.{packing_checks}
-use Rattle.packing.specs.Starts.{records_of}
+use Rattle.schema.specs.Records.{records_of}
 use Rattle.enclave.specs.Answer.{unless}
 use Rattle.federate.specs.declared.FederateAnswer.{FederateAnswer}
 use Rattle.federate.specs.declared.FederateAnswer.TheVariants as answer

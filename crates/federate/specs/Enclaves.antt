@@ -11,7 +11,8 @@ use Rattle.checks.specs.Identities.{id_order_checks}
 use Rattle.scope_checks.specs.Links.{links}
 use Rattle.enclave.specs.Passes.{enclave_checks}
 use Rattle.enclave.specs.Answer.{pack_image}
-use Rattle.federate.specs.Records.{is_of, enclaves_before, enclave_before, enclave_pack}
+use Rattle.schema.specs.Records.{is_of}
+use Rattle.federate.specs.Records.{enclaves_before, enclave_before, enclave_pack}
 
 -- the image of the enclave of record n: that of its own pack
 abbrev pub image_at : List ℕ → List ℕ → List ℕ → ℕ → Image

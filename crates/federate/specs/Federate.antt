@@ -8,12 +8,12 @@ use Rattle.answers.specs.Fields as field
 use Rattle.answers.specs.Checks.{Check, need, run}
 use Rattle.schema.specs.declared.rows.FederateImage.{FederateImage}
 use Rattle.schema.specs.Rows.{federate_at}
-use Rattle.packing.specs.Starts.{records_of}
+use Rattle.schema.specs.Records.{records_of}
 use Rattle.checks.specs.Refs.{end_within}
 use Rattle.checks.specs.Identities.{id_check}
 use Rattle.federate.specs.Records.{enclaves_of}
 use Rattle.federate.specs.Enclaves.{record_checks}
-use Rattle.federate.specs.RoutePairs.{route_record_checks}
+use Rattle.route_pairs.specs.RoutePairs.{route_record_checks}
 
 -- the enclaves' span ends, and not past the keys of enclaves ("Enclave key domain", table 255)
 abbrev pub span_check : FederateImage → Check

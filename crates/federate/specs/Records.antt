@@ -1,16 +1,6 @@
 -- The records of a federate pack by their table, and the pack of each enclave in it (document 01, "The pack"). Assumes nothing.
-use Rattle.std.specs.Prelude.{ℕ, zero, suc, ◌+◌, ◌-◌, ◌*◌, Bool, cond, List, eqb, take, drop}
-use Rattle.schema.specs.Rows.{byte_of}
-use Rattle.packing.specs.Starts.{records_of}
-
--- record n is of table t
-abbrev pub is_of : List ℕ → ℕ → ℕ → Bool
-is_of p t n = eqb (byte_of p n 0) t
-
--- how many numbers below n pass a test
-unfoldable pub count_below : (ℕ → Bool) → ℕ → ℕ
-count_below f zero = 0
-count_below f (suc n) = count_below f n + cond (f n) 1 0
+use Rattle.std.specs.Prelude.{ℕ, zero, suc, ◌-◌, ◌*◌, cond, List, take, drop}
+use Rattle.schema.specs.Records.{records_of, is_of, count_below}
 
 -- the enclaves before record n, and those of the pack
 abbrev pub enclaves_before : List ℕ → ℕ → ℕ
