@@ -9,6 +9,7 @@ use Rattle.scope_checks.specs.Depths.{Known}
 
 -- after a store the depths are known still
 pub known_set : (m : Image) (ds : List ℕ) (at v : ℕ) → Known m ds → at < length ds → v ≡ links_of (parents m) (m.rows 7) at + 1 → Known m (set ds at v)
+unfolding Known
 known_set m ds at v known h e i g = by (eqb i at) refl
   where
     by : (t : Bool) → eqb i at ≡ t → get_or (set ds at v) i 0 ≡ links_of (parents m) (m.rows 7) i + 1
@@ -22,4 +23,5 @@ zeros (suc n) zero = refl
 zeros (suc n) (suc i) = zeros n i
 
 pub known_none : (m : Image) (n : ℕ) → Known m (replicate n 0)
+unfolding Known
 known_none m n i h = absurd (omega (arith, zeros n i))

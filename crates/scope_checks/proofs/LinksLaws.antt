@@ -4,7 +4,12 @@ use Rattle.std.proofs.Math.Nat.{suc-mul, mul-le-mul}
 use Rattle.schema.specs.declared.index.ScopeIndex.{ScopeIndex}
 use Rattle.schema.specs.declared.index.MaybeScope.{MaybeScope}
 use Rattle.schema.specs.declared.index.MaybeScope.TheVariants.{NoScope, Scope}
-use Rattle.scope_checks.specs.Links.{followed, links_of, links_below}
+use Rattle.answers.specs.declared.Outcome.TheVariants.{Passed, Refused}
+use Rattle.answers.specs.declared.Refusal.TheVariants.{ScopeParentCycle}
+use Rattle.answers.specs.Checks.{first}
+use Rattle.checks.specs.Image.{Image}
+use Rattle.scope_checks.specs.Links.{followed, links_of, links_below, parents, cycle_checks}
+use borrow.Author.Tests.{lt-ltb, le-ltb}
 
 -- at most k links are followed
 pub followed-within : (parent : ℕ → MaybeScope) (k : ℕ) (r : MaybeScope) → followed parent k r ≤ k
@@ -29,10 +34,9 @@ followed_none parent zero r e = refl
 followed_none parent (suc k) r e = rw e refl
 
 -- after k of n links, the link to a parent and those from there on
-pub followed_next : (parent : ℕ → MaybeScope) (n k : ℕ) (r : MaybeScope) (s : ScopeIndex) → r ≡ Scope s → k < n → followed parent (n - k) r ≡ followed parent (n - (k + 1)) (parent s.0) + 1
+pub followed_next : (parent : ℕ → MaybeScope) (n k : ℕ) (s : ScopeIndex) → k < n → followed parent (n - k) (Scope s) ≡ followed parent (n - (k + 1)) (parent s.0) + 1
 unfolding followed
-followed_next parent n k r s e h =
-    let m : n - k ≡ suc (n - (k + 1)) = omega arith in rw (m, e) (omega arith)
+followed_next parent n k s h = let m : n - k ≡ suc (n - (k + 1)) = omega arith in rw m (omega arith)
 
 -- with k of n links behind, those that are left are followed up to n - k of them
 followed_least : (parent : ℕ → MaybeScope) (k n : ℕ) (r : MaybeScope) → k ≤ n → followed parent k r ≡ min k (followed parent n r)
@@ -46,16 +50,23 @@ followed_least parent (suc k) (suc n) (Scope s) h =
 pub followed_cut : (parent : ℕ → MaybeScope) (n k : ℕ) (r : MaybeScope) → followed parent (n - k) r ≡ min (n - k) (followed parent n r)
 followed_cut parent n k r = followed_least parent (n - k) n r (omega arith)
 
-pub ruleset followed_laws = (followed_none, followed_next, followed_cut)
+-- fewer links than n from a scope: its parent has one less
+pub followed_above : (parent : ℕ → MaybeScope) (n : ℕ) (s : ScopeIndex) → followed parent n (Scope s) < n → followed parent n (Scope s) ≡ followed parent n (parent s.0) + 1
+unfolding followed
+followed_above parent zero s h = absurd (omega arith)
+followed_above parent (suc n) s h =
+    let e = followed_least parent n (suc n) (parent s.0) (omega arith) in omega arith
+
+pub ruleset followed_laws = (followed_none, followed_next, followed_cut, followed_above)
 
 -- the links of one scope more
 pub below_next : (parent : ℕ → MaybeScope) (n k : ℕ) → links_below parent n (k + 1) ≡ links_below parent n k + links_of parent n k
 unfolding links_below
 below_next parent n k = rw add-one refl
 
-pub below_none : (parent : ℕ → MaybeScope) (n : ℕ) → links_below parent n 0 ≡ 0
+pub below_none : (parent : ℕ → MaybeScope) (n k : ℕ) → k ≡ 0 → links_below parent n k ≡ 0
 unfolding links_below
-below_none parent n = refl
+below_none parent n k e = rw e refl
 
 -- with fewer than 2 ^ 32 scopes the sum with one scope more fits 64 bits
 pub sum_fits : (parent : ℕ → MaybeScope) (n k : ℕ) → k < n → n < 2 ^ 32 → links_below parent n k + links_of parent n k < 2 ^ 64
@@ -66,4 +77,13 @@ sum_fits parent n k h b =
     let w = rw suc-mul at z in
     omega arith
 
-pub ruleset below_laws = (below_none, below_next, sum_fits)
+-- the check of a scope, by its links
+pub links_end : (m : Image) (i : ℕ) → links_of (parents m) (m.rows 7) i < m.rows 7 → first (cycle_checks m i) ≡ Passed
+unfolding first cycle_checks
+links_end m i h = rw (lt-ltb _ _ h) refl
+
+pub links_circle : (m : Image) (i : ℕ) → m.rows 7 ≤ links_of (parents m) (m.rows 7) i → first (cycle_checks m i) ≡ Refused (ScopeParentCycle i)
+unfolding first cycle_checks
+links_circle m i h = rw (le-ltb _ _ h) refl
+
+pub ruleset below_laws = (below_none, below_next, sum_fits, links_end, links_circle)

@@ -10,5 +10,5 @@ abbrev pub all_parents : Image → Parents
 all_parents m = parents_answer (first (run (cycle_checks m) 0 (m.rows 7))) (links m)
 
 -- a depth is 0, not known yet, or one more than the scope's links
-abbrev pub Known : Image → List ℕ → Type 0
+unfoldable pub Known : Image → List ℕ → Type 0
 Known m depths = (i : ℕ) → 0 < get_or depths i 0 → get_or depths i 0 ≡ links_of (parents m) (m.rows 7) i + 1

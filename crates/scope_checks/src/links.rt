@@ -38,6 +38,7 @@ fn depth_of(depths: &[u32], scope: ScopeIndex) -> u32
     0
 }
 
+#[tactic(auto, using(crate::proofs::LinksLaws::followed_laws), unfolding(crate::specs::Depths::Known))]
 // The links of scope i: parents followed until none, or until as many as there are scopes.
 fn links_of(e: Enclave, depths: &[u32], i: u32) -> u32
     requires { Known (image_of e) depths.now }
@@ -79,7 +80,7 @@ fn settle(e: Enclave, depths: &mut [u32], i: u32, depth: u32)
 }
 
 // The parents of every scope, with room for the depths of the first ones.
-#[tactic(auto, using(answers::proofs::Loops::run_laws, crate::proofs::LinksLaws::below_laws), unfolding(answers::specs::Checks::first))]
+#[tactic(auto, using(answers::proofs::Loops::run_laws, crate::proofs::LinksLaws::below_laws))]
 fn follow_parents(e: Enclave, depths: &mut [u32]) -> Parents
     requires { Known (image_of e) depths.old }
     ensures { result ≡ all_parents (image_of e.entry) }
@@ -101,6 +102,7 @@ fn follow_parents(e: Enclave, depths: &mut [u32]) -> Parents
 #[tactic(auto, using(crate::proofs::DepthLaws::known_none))]
 #[inline(never)]
 fn follow_with<const N: usize>(e: Enclave) -> Parents
+    requires { N ≤ 65536 }
     ensures { result ≡ all_parents (image_of e.entry) }
 {
     follow_parents(e, &mut [0u32; N])
@@ -113,7 +115,7 @@ pub fn check_parents(e: Enclave) -> Parents
 {
     let scopes = e.rows(ScopeImage::TABLE);
     if scopes < FEW {
-        return follow_parents(e, &mut [0u32; 0]);
+        return follow_with::<0>(e);
     }
     if scopes as usize <= MANY {
         return follow_with::<MANY>(e);
