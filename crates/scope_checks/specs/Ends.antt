@@ -1,10 +1,10 @@
 -- The six running ends of the rows of scopes: what they are before a row, the checks of a row's ranges against them, and how a row moves
 -- them on. Assumes nothing.
-use Rattle.std.specs.Prelude.{ℕ, ◌-◌, cond, ◌≡◌, List, ◌++◌, eqb}
+use Rattle.std.specs.Prelude.{ℕ, ◌-◌, cond, List, ◌++◌, eqb}
 use Rattle.answers.specs.declared.Outcome.{Outcome}
 use Rattle.answers.specs.declared.Outcome.TheVariants.{Passed, Refused}
 use Rattle.answers.specs.Fields as field
-use Rattle.answers.specs.Checks.{Check, Decides}
+use Rattle.answers.specs.Checks.{Check}
 use Rattle.schema.specs.declared.rows.ScopeImage.{ScopeImage}
 use Rattle.checks.specs.Refs.{range_checks, range_end}
 use Rattle.scope_checks.specs.declared.ends.ScopeEnds.{ScopeEnds}
@@ -56,8 +56,3 @@ scope_range_checks rows i row ends = member_range_checks rows i row ends ++ reac
 abbrev pub ends_after : Outcome → ScopeImage → ScopeEnds → ScopeEnds
 ends_after Passed row old = ends_of row
 ends_after (Refused r) row old = old
-
--- the row's checks cs answer o, and the ends move from old to new
-pub record Moves (cs : List Check) (row : ScopeImage) (old new : ScopeEnds) (o : Outcome) : Type 0 where
-  pub decides : Decides cs o
-  pub moved : new ≡ ends_after o row old

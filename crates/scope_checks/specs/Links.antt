@@ -34,7 +34,7 @@ abbrev pub links : Image → ℕ
 links m = links_below (parents m) (m.rows 7) (m.rows 7)
 
 -- as many links as there are scopes: a cycle (view.rs, the loop over ancestors)
-abbrev pub cycle_checks : Image → ℕ → List Check
+unfoldable pub cycle_checks : Image → ℕ → List Check
 cycle_checks m i = need (ltb (links_of (parents m) (m.rows 7) i) (m.rows 7)) (ScopeParentCycle i) ∷ []
 
 -- what the walk of all parents answers: the links where the checks passed, else the refusal

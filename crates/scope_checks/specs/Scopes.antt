@@ -14,19 +14,19 @@ use Rattle.checks.specs.Refs.{ref_to}
 use Rattle.scope_checks.specs.declared.ends.ScopeEnds.{ScopeEnds}
 use Rattle.scope_checks.specs.Ends.{ends_before, scope_range_checks}
 
-abbrev pub parent_checks : (ℕ → ℕ) → ℕ → MaybeScope → List Check
+unfoldable pub parent_checks : (ℕ → ℕ) → ℕ → MaybeScope → List Check
 parent_checks rows i NoScope = []
 parent_checks rows i (Scope s) = ref_to rows 7 i field.parent 7 s.0 ∷ []
 
 -- the scope's mode is there, and names this scope and its reactor
-abbrev pub scope_mode_checks : (ℕ → ℕ) → (ℕ → ModeImage) → ℕ → ℕ → MaybeMode → List Check
+unfoldable pub scope_mode_checks : (ℕ → ℕ) → (ℕ → ModeImage) → ℕ → ℕ → MaybeMode → List Check
 scope_mode_checks rows modes i reactor NoMode = []
 scope_mode_checks rows modes i reactor (Mode m) =
     ref_to rows 7 i field.mode 6 m.0
     ∷ need (eqb (modes m.0).scope.0 i && eqb (modes m.0).reactor.0 reactor) (OwnershipMismatch 7 i field.mode)
     ∷ []
 
-abbrev pub scope_owner_checks : Image → ℕ → ScopeImage → List Check
+unfoldable pub scope_owner_checks : Image → ℕ → ScopeImage → List Check
 scope_owner_checks m i row =
     (ref_to m.rows 7 i field.reactor 2 row.reactor.0 ∷ [])
     ++ (parent_checks m.rows i row.parent

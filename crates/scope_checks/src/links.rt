@@ -1,9 +1,124 @@
-use answers::{Refusal};
+// The walk of the scopes' parents: the links followed, and the cycles. Each scope's links are found once: a walk ends at the first scope whose
+// depth is known, and the depths of the scopes on its way are written after it. A depth is a scope's links + 1, or 0 where they are not known.
+#![tactic(auto, using(crate::proofs::LinksLaws::followed_laws))]
 
+ghost use Rattle.std.specs.Prelude.{◌≡◌, ◌+◌, ◌≤◌, get_or};
+ghost use Rattle.checks.specs.Image.{image_of};
+ghost use Rattle.scope_checks.specs.Links.{links_of, links, parents, cycle_checks, parents_answer};
+ghost use Rattle.scope_checks.specs.Depths.{Known, all_parents};
+ghost use Rattle.answers.specs.Checks.{first, run};
+
+use answers::Refusal;
+use schema::index::{MaybeScope, ScopeIndex};
+use schema::lent::Enclave;
+use schema::rows::ScopeImage;
+
+// Fewer scopes than this have short walks: no depth is remembered, and there is no array to clear.
+const FEW: u32 = 64;
+// Depths for most images: 16 KiB of stack.
+const MANY: usize = 4096;
+// Depths for as many scopes as a pack has records: 256 KiB of stack.
+const MOST: usize = 65536;
 
 // The links of all scopes, or the first cycle.
 #[derive(Clone, Copy)]
 pub enum Parents {
     Links(u64),
     Refused(Refusal),
+}
+
+// The depth of a scope. None past the array is ever known: the answers are right with an array of any length.
+fn depth_of(depths: &[u32], scope: ScopeIndex) -> u32
+    ensures { result ≡ get_or depths.now scope.0 0 }
+{
+    let at = scope.0 as usize;
+    if at < depths.len() {
+        return depths[at];
+    }
+    0
+}
+
+#[tactic(auto, using(crate::proofs::LinksLaws::followed_laws), unfolding(crate::specs::Depths::Known))]
+// The links of scope i: parents followed until none, or until as many as there are scopes.
+fn links_of(e: Enclave, depths: &[u32], i: u32) -> u32
+    requires { Known (image_of e) depths.now }
+    ensures { let m = image_of e.entry in result ≡ links_of (parents m) (m.rows 7) i }
+{
+    let scopes = e.rows(ScopeImage::TABLE);
+    let mut at = ScopeIndex(i);
+    for followed in 0..scopes {
+        let depth = depth_of(depths, at);
+        if depth != 0 {
+            return followed + (depth - 1).min(scopes - followed);
+        }
+        let MaybeScope::Scope(parent) = ScopeImage::row(e, at).parent else {
+            return followed;
+        };
+        at = parent;
+    }
+    scopes
+}
+
+// Writes the depth of scope i and those of the scopes above it, up to the first that is known.
+#[tactic(auto, using(crate::proofs::LinksLaws::followed_laws, crate::proofs::DepthLaws::known_set))]
+fn settle(e: Enclave, depths: &mut [u32], i: u32, depth: u32)
+    requires known { Known (image_of e) depths.old }
+    requires links { let m = image_of e in depth ≡ links_of (parents m) (m.rows 7) i + 1 }
+    requires ends { let m = image_of e in depth ≤ m.rows 7 }
+    ensures { Known (image_of e.entry) depths.new }
+{
+    let mut at = i;
+    let mut depth = depth;
+    while (at as usize) < depths.len() && depths[at as usize] == 0 {
+        depths[at as usize] = depth;
+        let MaybeScope::Scope(parent) = ScopeImage::row(e, ScopeIndex(at)).parent else {
+            return;
+        };
+        at = parent.0;
+        depth -= 1;
+    }
+}
+
+// The parents of every scope, with room for the depths of the first ones.
+#[tactic(auto, using(answers::proofs::Loops::run_laws, crate::proofs::LinksLaws::below_laws))]
+fn follow_parents(e: Enclave, depths: &mut [u32]) -> Parents
+    requires { Known (image_of e) depths.old }
+    ensures { result ≡ all_parents (image_of e.entry) }
+{
+    let scopes = e.rows(ScopeImage::TABLE);
+    let mut links: u64 = 0;
+    for i in 0..scopes {
+        let found = links_of(e, depths, i);
+        if found >= scopes {
+            return Parents::Refused(Refusal::ScopeParentCycle { scope: i });
+        }
+        settle(e, depths, i, found + 1);
+        links += found as u64;
+    }
+    Parents::Links(links)
+}
+
+// The array stays in this function's own frame: who needs less room does not pay for it.
+#[tactic(auto, using(crate::proofs::DepthLaws::known_none))]
+#[inline(never)]
+fn follow_with<const N: usize>(e: Enclave) -> Parents
+    requires { N ≤ 65536 }
+    ensures { result ≡ all_parents (image_of e.entry) }
+{
+    follow_parents(e, &mut [0u32; N])
+}
+
+// The parents of every scope.
+#[tactic(auto, using(crate::proofs::DepthLaws::known_none))]
+pub fn check_parents(e: Enclave) -> Parents
+    ensures { let m = image_of e.entry in result ≡ parents_answer (first (run (cycle_checks m) 0 (m.rows 7))) (links m) }
+{
+    let scopes = e.rows(ScopeImage::TABLE);
+    if scopes < FEW {
+        return follow_with::<0>(e);
+    }
+    if scopes as usize <= MANY {
+        return follow_with::<MANY>(e);
+    }
+    follow_with::<MOST>(e)
 }

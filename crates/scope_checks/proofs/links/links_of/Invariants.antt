@@ -1,0 +1,10 @@
+use Rattle.std.proofs.Common.{◌≡◌, ◌+◌, ◌-◌}
+use Rattle.checks.specs.Image.{image_of}
+use Rattle.scope_checks.specs.Links.{followed, links_of, parents}
+use Rattle.scope_checks.proofs.links.links_of.Given as goal
+
+abbrev pub invariant-loop-followed : goal.invariant-loop-followed
+invariant-loop-followed l =
+    let m = image_of l.e in
+    let n = m.rows 7 in
+    links_of (parents m) n l.i ≡ l.followed + followed (parents m) (n - l.followed) (parents m l.at.0)
