@@ -7,16 +7,10 @@ use Rattle.answers.specs.Fields as field
 use Rattle.answers.specs.Checks.{Check, need}
 use Rattle.schema.specs.declared.index.RouteDirection.{RouteDirection}
 use Rattle.schema.specs.declared.index.RouteDirection.TheVariants.{Inbound, Outbound}
-use Rattle.schema.specs.declared.rows.RouteImage.{RouteImage}
-use Rattle.schema.specs.Rows.{route_at}
-use Rattle.checks.specs.Image.{Image, start_of}
+use Rattle.checks.specs.Image.{Image}
 use Rattle.checks.specs.Refs.{ref_to}
 use Rattle.checks.specs.Lists.{after_first}
 use Rattle.checks.specs.Identities.{id_check, is_equal, is_less, id_order_checks}
-
--- the route at row i
-abbrev pub routes_at : List ℕ → List ℕ → ℕ → RouteImage
-routes_at p s i = route_at p (start_of s 23 + i)
 
 -- 0 inbound, 1 outbound
 abbrev pub direction_number : RouteDirection → ℕ
@@ -24,7 +18,7 @@ direction_number Inbound = 0
 direction_number Outbound = 1
 
 -- boundaries rise; of one boundary the inbound half comes before the outbound one, and neither twice
-abbrev pub route_order_checks : (IdentityPlace → List ℕ) → ℕ → IdentityPlace → RouteDirection → IdentityPlace → RouteDirection → List Check
+unfoldable pub route_order_checks : (IdentityPlace → List ℕ) → ℕ → IdentityPlace → RouteDirection → IdentityPlace → RouteDirection → List Check
 route_order_checks text i id d before e =
     need (not (is_less (compared (text id) (text before)))) (StableIdsNotSorted field.kind_boundary i id)
     ∷ need (not (is_equal (compared (text id) (text before)) && eqb (direction_number d) (direction_number e))) (DuplicateRouteHalf id (direction_number d))
@@ -32,7 +26,7 @@ route_order_checks text i id d before e =
     ∷ []
 
 -- of one boundary, by its halves' directions
-abbrev pub same_boundary_checks : ℕ → IdentityPlace → ℕ → ℕ → List Check
+unfoldable pub same_boundary_checks : ℕ → IdentityPlace → ℕ → ℕ → List Check
 same_boundary_checks i id d e =
     need (not (eqb d e)) (DuplicateRouteHalf id d) ∷ need (not (eqb e 1)) (EntriesNotSorted 23 i) ∷ []
 
