@@ -40,22 +40,27 @@ root_checks m i = ref_to m.rows 1 0 field.root_reactor 2 0 ∷ []
 abbrev pub enclave_id_checks : Image → ℕ → List Check
 enclave_id_checks m i = id_check m.text field.kind_enclave 0 m.enclave_id ∷ []
 
--- table lengths, root reactor, identity; the rows
+-- table lengths, root reactor, identity
+unfoldable pub head_passes : List Pass
+head_passes = times 8 length_checks ∷ times 1 root_checks ∷ times 1 enclave_id_checks ∷ []
+
+-- the rows
 unfoldable pub row_passes : List Pass
 row_passes =
-    times 8 length_checks
-    ∷ times 1 root_checks
-    ∷ times 1 enclave_id_checks
-    ∷ over 2 reactor_checks
+    over 2 reactor_checks
     ∷ over 3 action_checks
     ∷ over 4 port_checks
     ∷ over 5 reaction_checks
     ∷ over 6 mode_checks
     ∷ []
 
--- lists, routes and bindings
-unfoldable pub list_passes : List Pass
-list_passes =
+-- the rows of scopes, and then parent cycles
+unfoldable pub scope_passes : List Pass
+scope_passes = over 7 scope_checks ∷ over 7 cycle_checks ∷ []
+
+-- the lists of actions, ports and reactions
+unfoldable pub reaction_list_passes : List Pass
+reaction_list_passes =
     over 3 action_trigger_checks
     ∷ over 4 port_trigger_checks
     ∷ over 9 (index_checks 9 field.port 4)
@@ -63,15 +68,30 @@ list_passes =
     ∷ over 11 (index_checks 11 field.action 3)
     ∷ over 12 (index_checks 12 field.mode 6)
     ∷ over 5 enabled_modes_checks
-    ∷ over 13 (index_checks 13 field.scope 7)
+    ∷ []
+
+-- the lists of scopes
+unfoldable pub scope_list_passes : List Pass
+scope_list_passes =
+    over 13 (index_checks 13 field.scope 7)
     ∷ over 14 (index_checks 14 field.action 3)
     ∷ over 15 (startup_checks 15)
     ∷ over 7 scope_list_checks
-    ∷ over 8 (level_entry_checks 8)
+    ∷ []
+
+-- every entry of the tables that ranges lead to
+unfoldable pub entry_passes : List Pass
+entry_passes =
+    over 8 (level_entry_checks 8)
     ∷ over 16 (level_entry_checks 16)
     ∷ over 17 (lifecycle_entry_checks 17)
     ∷ over 18 (lifecycle_entry_checks 18)
-    ∷ over 19 (startup_checks 19)
+    ∷ []
+
+-- the lists of the enclave itself, routes and bindings
+unfoldable pub enclave_list_passes : List Pass
+enclave_list_passes =
+    over 19 (startup_checks 19)
     ∷ over 20 (startup_checks 20)
     ∷ over 21 shutdown_reaction_checks
     ∷ over 22 shutdown_action_checks
@@ -79,9 +99,16 @@ list_passes =
     ∷ over 24 binding_id_checks
     ∷ []
 
--- the whole order: the rows of scopes and then parent cycles stand between the two lists
+-- the whole order
 unfoldable pub passes : List Pass
-passes = row_passes ++ (over 7 scope_checks ∷ over 7 cycle_checks ∷ list_passes)
+passes =
+    head_passes
+    ++ (row_passes
+    ++ (scope_passes
+    ++ (reaction_list_passes
+    ++ (scope_list_passes
+    ++ (entry_passes
+    ++ enclave_list_passes)))))
 
 -- a pass's checks, item by item
 unfoldable pub pass_checks : Image → Pass → List Check

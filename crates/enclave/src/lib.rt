@@ -1,9 +1,10 @@
-#![tactic(auto)]
-use answers::{Refusal};
 // The enclave check: the passes in order, each over its items in order; the first check that fails decides.
-pub mod check;
-pub mod passes;
+#![tactic(auto, using(answers::proofs::Laws::list_laws))]
 
+pub mod check;
+mod passes;
+
+use answers::Refusal;
 
 // What the check of an enclave answers.
 #[derive(Clone, Copy)]

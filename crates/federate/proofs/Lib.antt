@@ -1,10 +1,4 @@
-pub mod Tests
 pub mod Counts
 pub mod Ends
 pub mod EnclaveLaws
-pub mod OrderLaws
-pub mod SortLaws
-pub mod RowLaws
-pub mod PairLaws
-pub mod FaultLaws
 pub mod Whole

@@ -15,7 +15,7 @@ pub enum Decoded {
 pub fn follows(b: u8) -> bool
     ensures { result ≡ follows b }
 {
-    (0x80 <= b) & (b <= 0xBF)
+    matches!(b, 0x80..=0xBF)
 }
 
 // The byte at `at`, or 0 past the end.
@@ -86,7 +86,7 @@ pub fn utf8_scalar(text: &[u8], at: usize) -> Decoded
 pub fn unicode_control(value: u32) -> bool
     ensures { result ≡ control value }
 {
-    (value <= 0x1F) | ((0x7F <= value) & (value <= 0x9F))
+    matches!(value, 0x00..=0x1F | 0x7F..=0x9F)
 }
 
 // The property White_Space.
@@ -94,14 +94,17 @@ pub fn unicode_control(value: u32) -> bool
 pub fn unicode_whitespace(value: u32) -> bool
     ensures { result ≡ white_space value }
 {
-    ((0x0009 <= value) & (value <= 0x000D))
-        | (value == 0x0020)
-        | (value == 0x0085)
-        | (value == 0x00A0)
-        | (value == 0x1680)
-        | ((0x2000 <= value) & (value <= 0x200A))
-        | ((0x2028 <= value) & (value <= 0x2029))
-        | (value == 0x202F)
-        | (value == 0x205F)
-        | (value == 0x3000)
+    matches!(
+        value,
+        0x0009..=0x000D
+            | 0x0020
+            | 0x0085
+            | 0x00A0
+            | 0x1680
+            | 0x2000..=0x200A
+            | 0x2028..=0x2029
+            | 0x202F
+            | 0x205F
+            | 0x3000
+    )
 }

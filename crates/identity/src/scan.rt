@@ -166,7 +166,7 @@ pub fn is_utf8(text: &[u8]) -> bool
 fn refused(value: u32, edge: bool) -> bool
     ensures { result ≡ refused value edge }
 {
-    unicode_control(value) | (edge & unicode_whitespace(value))
+    unicode_control(value) || (edge && unicode_whitespace(value))
 }
 
 // The same as `utf8_step` for what may stand there in an identity.

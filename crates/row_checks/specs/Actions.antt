@@ -13,13 +13,13 @@ use Rattle.row_checks.specs.Bindings.{binding_checks}
 use Rattle.row_checks.specs.Reactors.{slot_checks}
 
 -- a standard action has a binding, a timer and a shutdown have none
-abbrev pub action_binding_checks : (ℕ → ℕ) → (ℕ → RequiredBindingImage) → ℕ → Bool → MaybeBinding → List Check
+unfoldable pub action_binding_checks : (ℕ → ℕ) → (ℕ → RequiredBindingImage) → ℕ → Bool → MaybeBinding → List Check
 action_binding_checks rows bindings i true (Binding b) = binding_checks rows bindings 3 i field.binding Action b.0
 action_binding_checks rows bindings i true NoBinding = need false (BindingPresenceMismatch 3 i field.binding) ∷ []
 action_binding_checks rows bindings i false (Binding b) = need false (BindingPresenceMismatch 3 i field.binding) ∷ []
 action_binding_checks rows bindings i false NoBinding = []
 
-abbrev pub action_row : Image → ℕ → ActionPart → ℕ → List Check
+unfoldable pub action_row : Image → ℕ → ActionPart → ℕ → List Check
 action_row m i row previous =
     (ref_to m.rows 3 i field.scope 7 row.scope ∷ [])
     ++ (slot_checks 3 m.action_slots i row.slot

@@ -17,14 +17,14 @@ is_mode i NoMode = false
 is_mode i (Mode m) = eqb m.0 i
 
 -- the scope is the mode's reactor's, and the mode's own; the reactor's span holds the mode
-abbrev pub mode_owner_checks : ℕ → ModeImage → ReactorImage → ScopeImage → List Check
+unfoldable pub mode_owner_checks : ℕ → ModeImage → ReactorImage → ScopeImage → List Check
 mode_owner_checks i row reactor scope =
     need (eqb scope.reactor.0 row.reactor.0) (OwnershipMismatch 6 i field.scope_reactor)
     ∷ need (is_mode i scope.mode) (OwnershipMismatch 6 i field.scope_mode)
     ∷ need (contains reactor.modes.0.start reactor.modes.0.len i) (OwnershipMismatch 6 i field.reactor_modes)
     ∷ []
 
-abbrev pub mode_row : Image → ℕ → ModeImage → List Check
+unfoldable pub mode_row : Image → ℕ → ModeImage → List Check
 mode_row m i row =
     ref_to m.rows 6 i field.reactor 2 row.reactor.0
     ∷ ref_to m.rows 6 i field.scope 7 row.scope.0

@@ -8,7 +8,7 @@ use Rattle.checks.specs.Image.{Image}
 use Rattle.checks.specs.Refs.{ref_to, range_checks, range_end, end_before}
 use Rattle.row_checks.specs.Bindings.{binding_checks}
 
-abbrev pub port_row : Image → ℕ → PortImage → ℕ → List Check
+unfoldable pub port_row : Image → ℕ → PortImage → ℕ → List Check
 port_row m i row previous =
     binding_checks m.rows m.bindings 4 i field.binding Port row.binding.0
     ++ ((ref_to m.rows 4 i field.scope 7 row.scope.0 ∷ [])

@@ -43,7 +43,7 @@ unfoldable pub bank_checks : ℕ → MaybeBank → List Check
 bank_checks i NoBank = []
 bank_checks i (Bank b) = need (ltb b.index b.total) (InvalidBankInfo i b.index b.total) ∷ []
 
-abbrev pub reactor_row : Image → ℕ → ReactorImage → ℕ → List Check
+unfoldable pub reactor_row : Image → ℕ → ReactorImage → ℕ → List Check
 reactor_row m i row previous =
     binding_checks m.rows m.bindings 2 i field.state_binding StateInitializer row.state_binding.0
     ++ (slot_checks 2 m.state_slots i row.state_slot

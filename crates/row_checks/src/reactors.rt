@@ -95,7 +95,7 @@ fn check_bank(i: u32, bank: MaybeBank) -> Outcome
     })
 }
 
-#[tactic(auto, using(answers::proofs::Laws::list_laws))]
+#[tactic(auto, using(answers::proofs::Laws::list_laws), unfolding(crate::specs::Reactors::reactor_row))]
 // Row i, where the modes of the rows before end at `previous_end`.
 fn check_reactor_row(e: Enclave, i: u32, row: ReactorImage, previous_end: u64) -> Outcome
     ensures { result ≡ first (reactor_row (image_of e.entry) i row previous_end) }

@@ -2,3 +2,4 @@ pub mod Number
 pub mod Layout
 pub mod Rows
 pub mod Tables
+pub mod Records

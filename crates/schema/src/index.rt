@@ -1,4 +1,6 @@
 // The index types, one for each dense table, and the small enums of optional fields and kinds.
+ghost use Rattle.std.specs.Prelude.{◌≡◌};
+ghost use Rattle.schema.specs.Records.{direction_number, domain_number};
 
 #[derive(Clone, Copy)]
 pub struct ReactorIndex(pub u32);
@@ -106,4 +108,27 @@ pub enum BindingKind {
     Reaction,
     Port,
     Action,
+}
+
+impl RouteDirection {
+    // Document 01's number of the direction.
+    pub fn number(self) -> u8
+        ensures { result ≡ direction_number self }
+    {
+        match self {
+            RouteDirection::Inbound => 0,
+            RouteDirection::Outbound => 1,
+        }
+    }
+}
+
+impl TimingDomain {
+    pub fn number(self) -> u8
+        ensures { result ≡ domain_number self }
+    {
+        match self {
+            TimingDomain::Logical => 0,
+            TimingDomain::Physical => 1,
+        }
+    }
 }

@@ -1,5 +1,6 @@
 // A lent pack of whole records, and the numbers that stand in one.
 ghost use Rattle.std.specs.Prelude.{◌≡◌, ◌+◌, ◌*◌, ◌/◌, ◌%◌, ◌^◌, ◌<◌, ◌≤◌, length};
+ghost use Rattle.schema.specs.Records.{records_of, is_of};
 ghost use Rattle.schema.specs.Number.{number};
 ghost use Rattle.schema.specs.Tables.{start_of, rows_of, IsRising, EndsInside, tables};
 ghost use Rattle.schema.specs.Rows.{byte_of, bit_of, range, span, place};
@@ -45,9 +46,17 @@ pub fn bit(b: u8, k: u32) -> bool
 impl<'a> Pack<'a> {
     // How many records the pack has.
     pub fn records(self) -> usize
-        ensures { result ≡ length self.entry.bytes.now / 64 }
+        ensures { result ≡ records_of self.entry.bytes.now }
     {
         self.bytes.len() / 64
+    }
+
+    // Whether record n is of a table.
+    pub fn is_of(self, table: u8, n: usize) -> bool
+        requires { n < length self.bytes.now / 64 }
+        ensures { result ≡ is_of self.entry.bytes.now table n }
+    {
+        self.byte(n, 0) == table
     }
 
     // Byte j of record n, and the W and the D from byte j.

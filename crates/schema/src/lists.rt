@@ -102,8 +102,6 @@ impl LifecycleReactionImage {
 pub struct PortEntry<const T: u8>(pub PortIndex);
 
 impl<const T: u8> PortEntry<T> {
-    pub const TABLE: u8 = T;
-
     pub fn empty() -> Self
         ensures { result.0.0 ≡ empty index_of }
     {
@@ -128,8 +126,6 @@ impl<const T: u8> PortEntry<T> {
 pub struct ActionEntry<const T: u8>(pub ActionIndex);
 
 impl<const T: u8> ActionEntry<T> {
-    pub const TABLE: u8 = T;
-
     pub fn empty() -> Self
         ensures { result.0.0 ≡ empty index_of }
     {
@@ -154,8 +150,6 @@ impl<const T: u8> ActionEntry<T> {
 pub struct ModeEntry<const T: u8>(pub ModeIndex);
 
 impl<const T: u8> ModeEntry<T> {
-    pub const TABLE: u8 = T;
-
     pub fn empty() -> Self
         ensures { result.0.0 ≡ empty index_of }
     {
@@ -180,8 +174,6 @@ impl<const T: u8> ModeEntry<T> {
 pub struct ScopeEntry<const T: u8>(pub ScopeIndex);
 
 impl<const T: u8> ScopeEntry<T> {
-    pub const TABLE: u8 = T;
-
     pub fn empty() -> Self
         ensures { result.0.0 ≡ empty index_of }
     {
@@ -206,8 +198,6 @@ impl<const T: u8> ScopeEntry<T> {
 pub struct LevelEntry<const T: u8>(pub LevelReactionImage);
 
 impl<const T: u8> LevelEntry<T> {
-    pub const TABLE: u8 = T;
-
     pub fn empty() -> Self
         ensures { result.0 ≡ empty level_of }
     {
@@ -232,8 +222,6 @@ impl<const T: u8> LevelEntry<T> {
 pub struct StartupEntry<const T: u8>(pub TimerStartupImage);
 
 impl<const T: u8> StartupEntry<T> {
-    pub const TABLE: u8 = T;
-
     pub fn empty() -> Self
         ensures { result.0 ≡ empty startup_of }
     {
@@ -258,8 +246,6 @@ impl<const T: u8> StartupEntry<T> {
 pub struct LifecycleEntry<const T: u8>(pub LifecycleReactionImage);
 
 impl<const T: u8> LifecycleEntry<T> {
-    pub const TABLE: u8 = T;
-
     pub fn empty() -> Self
         ensures { result.0 ≡ empty lifecycle_of }
     {
@@ -279,33 +265,93 @@ impl<const T: u8> LifecycleEntry<T> {
     }
 }
 
-// The list tables, by their numbers.
+// The list tables.
 pub type ReactionTrigger = LevelEntry<8>;
+
+impl ReactionTrigger {
+    pub const TABLE: u8 = 8;
+}
 
 pub type ReactionUsePort = PortEntry<9>;
 
+impl ReactionUsePort {
+    pub const TABLE: u8 = 9;
+}
+
 pub type ReactionEffectPort = PortEntry<10>;
+
+impl ReactionEffectPort {
+    pub const TABLE: u8 = 10;
+}
 
 pub type ReactionAction = ActionEntry<11>;
 
+impl ReactionAction {
+    pub const TABLE: u8 = 11;
+}
+
 pub type ReactionMode = ModeEntry<12>;
+
+impl ReactionMode {
+    pub const TABLE: u8 = 12;
+}
 
 pub type ScopeDescendant = ScopeEntry<13>;
 
+impl ScopeDescendant {
+    pub const TABLE: u8 = 13;
+}
+
 pub type ScopeLogicalAction = ActionEntry<14>;
+
+impl ScopeLogicalAction {
+    pub const TABLE: u8 = 14;
+}
 
 pub type ScopeTimerStartup = StartupEntry<15>;
 
+impl ScopeTimerStartup {
+    pub const TABLE: u8 = 15;
+}
+
 pub type ScopeResetReaction = LevelEntry<16>;
+
+impl ScopeResetReaction {
+    pub const TABLE: u8 = 16;
+}
 
 pub type ScopeStartupReaction = LifecycleEntry<17>;
 
+impl ScopeStartupReaction {
+    pub const TABLE: u8 = 17;
+}
+
 pub type ScopeShutdownReaction = LifecycleEntry<18>;
+
+impl ScopeShutdownReaction {
+    pub const TABLE: u8 = 18;
+}
 
 pub type StartupAction = StartupEntry<19>;
 
+impl StartupAction {
+    pub const TABLE: u8 = 19;
+}
+
 pub type TimerStartupAction = StartupEntry<20>;
+
+impl TimerStartupAction {
+    pub const TABLE: u8 = 20;
+}
 
 pub type ShutdownReaction = LifecycleEntry<21>;
 
+impl ShutdownReaction {
+    pub const TABLE: u8 = 21;
+}
+
 pub type ShutdownAction = ActionEntry<22>;
+
+impl ShutdownAction {
+    pub const TABLE: u8 = 22;
+}

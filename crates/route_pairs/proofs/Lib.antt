@@ -1,0 +1,6 @@
+pub mod FaultLaws
+pub mod OrderLaws
+pub mod PairLaws
+pub mod RowLaws
+pub mod SortLaws
+pub mod Tests

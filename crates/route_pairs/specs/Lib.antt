@@ -1,0 +1,2 @@
+pub mod RouteOrder
+pub mod RoutePairs

@@ -1,0 +1,2 @@
+// The routes of a federate, each against all of its boundary.
+#![tactic(auto)]
