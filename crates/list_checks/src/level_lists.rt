@@ -11,19 +11,11 @@ use checks::lists::{check_lifecycle, validate_level_ref, validate_levels, valida
 use checks::refs::check_action_ref;
 use schema::index::{ActionIndex, PortIndex, ScopeIndex};
 use schema::lent::Enclave;
-use schema::lists::{LevelEntry, LifecycleEntry};
+use schema::lists::{
+    LevelEntry, LifecycleEntry, ReactionTrigger, ScopeResetReaction, ScopeShutdownReaction,
+    ScopeStartupReaction, ShutdownReaction,
+};
 use schema::rows::{ActionImage, PortImage, ScopeImage};
-
-// The tables that these lists stand in.
-const TRIGGERS: u8 = 8;
-
-const RESETS: u8 = 16;
-
-const STARTUPS: u8 = 17;
-
-const SHUTDOWNS: u8 = 18;
-
-const ENCLAVE_SHUTDOWNS: u8 = 21;
 
 // The triggers of every action.
 #[tactic(auto, using(answers::proofs::Loops::run_laws), unfolding(crate::specs::ListTables::action_trigger_checks))]
@@ -32,7 +24,7 @@ pub fn check_action_triggers(e: Enclave) -> Outcome
 {
     for i in 0..e.rows(ActionImage::TABLE) {
         let action = ActionImage::row(e, ActionIndex(i));
-        let outcome = validate_levels::<TRIGGERS>(e, action.triggers);
+        let outcome = validate_levels::<{ ReactionTrigger::TABLE }>(e, action.triggers);
         let Outcome::Passed = outcome else {
             return outcome;
         };
@@ -47,7 +39,7 @@ pub fn check_port_triggers(e: Enclave) -> Outcome
 {
     for i in 0..e.rows(PortImage::TABLE) {
         let port = PortImage::row(e, PortIndex(i));
-        let outcome = validate_levels::<TRIGGERS>(e, port.triggers);
+        let outcome = validate_levels::<{ ReactionTrigger::TABLE }>(e, port.triggers);
         let Outcome::Passed = outcome else {
             return outcome;
         };
@@ -61,15 +53,15 @@ fn check_scope_list(e: Enclave, i: u32) -> Outcome
     ensures { result ≡ first (scope_list_checks (image_of e.entry) i) }
 {
     let scope = ScopeImage::row(e, ScopeIndex(i));
-    let reset = validate_levels::<RESETS>(e, scope.reset_reactions);
+    let reset = validate_levels::<{ ScopeResetReaction::TABLE }>(e, scope.reset_reactions);
     let Outcome::Passed = reset else {
         return reset;
     };
-    let startup = validate_lifecycle::<STARTUPS>(e, scope.startup_reactions);
+    let startup = validate_lifecycle::<{ ScopeStartupReaction::TABLE }>(e, scope.startup_reactions);
     let Outcome::Passed = startup else {
         return startup;
     };
-    validate_lifecycle::<SHUTDOWNS>(e, scope.shutdown_reactions)
+    validate_lifecycle::<{ ScopeShutdownReaction::TABLE }>(e, scope.shutdown_reactions)
 }
 
 // The lists of every scope.
@@ -86,15 +78,24 @@ pub fn check_scope_lists(e: Enclave) -> Outcome
     Outcome::Passed
 }
 
+// Entry i of table T: its reaction is there, with its level.
+#[tactic(auto, unfolding(crate::specs::ListTables::level_entry_checks))]
+fn check_level_entry<const T: u8>(e: Enclave, i: u32) -> Outcome
+    requires { T < tables }
+    ensures { result ≡ first (level_entry_checks T (image_of e.entry) i) }
+{
+    let entry = LevelEntry::<T>::row(e, i as usize).0;
+    validate_level_ref(e, T, i, entry)
+}
+
 // Every entry of table T, whether or not some range covers it.
-#[tactic(auto, using(answers::proofs::Loops::run_laws), unfolding(crate::specs::ListTables::level_entry_checks))]
+#[tactic(auto, using(answers::proofs::Loops::run_laws))]
 pub fn check_level_entries<const T: u8>(e: Enclave) -> Outcome
     requires { T < tables }
     ensures { let m = image_of e.entry in result ≡ first (run (level_entry_checks T m) 0 (m.rows T)) }
 {
     for i in 0..e.rows(T) {
-        let entry = LevelEntry::<T>::row(e, i as usize).0;
-        let outcome = validate_level_ref(e, T, i, entry);
+        let outcome = check_level_entry::<T>(e, i);
         let Outcome::Passed = outcome else {
             return outcome;
         };
@@ -135,8 +136,8 @@ pub fn check_lifecycle_entries<const T: u8>(e: Enclave) -> Outcome
 pub fn check_shutdown_reactions(e: Enclave) -> Outcome
     ensures { let m = image_of e.entry in result ≡ first (run (shutdown_reaction_checks m) 0 (m.rows 21)) }
 {
-    for i in 0..e.rows(ENCLAVE_SHUTDOWNS) {
-        let outcome = check_lifecycle::<ENCLAVE_SHUTDOWNS>(e, 0, i);
+    for i in 0..e.rows(ShutdownReaction::TABLE) {
+        let outcome = check_lifecycle::<{ ShutdownReaction::TABLE }>(e, 0, i);
         let Outcome::Passed = outcome else {
             return outcome;
         };

@@ -3,3 +3,4 @@
 
 pub mod level_lists;
 pub mod list_tables;
+pub mod routes;
