@@ -22,9 +22,12 @@ is_less Less = true
 is_less Equal = false
 is_less Greater = false
 
--- an identity differs from the one before, and is not below it
-abbrev pub id_order_checks : (IdentityPlace → List ℕ) → ℕ → ℕ → IdentityPlace → IdentityPlace → List Check
-id_order_checks text kind i id before =
-    need (not (is_equal (compared (text id) (text before)))) (DuplicateStableId kind i id)
-    ∷ need (not (is_less (compared (text id) (text before)))) (StableIdsNotSorted kind i id)
+-- an identity, whose text is t, differs from the one before, and is not below it
+abbrev pub text_order_checks : ℕ → ℕ → IdentityPlace → List ℕ → List ℕ → List Check
+text_order_checks kind i id t before =
+    need (not (is_equal (compared t before))) (DuplicateStableId kind i id)
+    ∷ need (not (is_less (compared t before))) (StableIdsNotSorted kind i id)
     ∷ []
+
+abbrev pub id_order_checks : (IdentityPlace → List ℕ) → ℕ → ℕ → IdentityPlace → IdentityPlace → List Check
+id_order_checks text kind i id before = text_order_checks kind i id (text id) (text before)

@@ -1,3 +1,2 @@
 pub mod ListTables
 pub mod Routes
-pub mod FirstPast

@@ -3,22 +3,17 @@ use Rattle.std.specs.Prelude.{◌+◌, ◌-◌, ℕ, not, List, [], ◌∷◌, �
 use Rattle.answers.specs.declared.Refusal.TheVariants.{OwnershipMismatch, DuplicateEntry, EntriesNotSorted}
 use Rattle.answers.specs.Fields as field
 use Rattle.answers.specs.Checks.{Check, need, run}
-use Rattle.schema.specs.Rows.{index_at}
-use Rattle.checks.specs.Image.{Image, start_of}
+use Rattle.checks.specs.Image.{Image}
 use Rattle.schema.specs.declared.rows.ModeImage.{ModeImage}
 use Rattle.checks.specs.Refs.{ref_to}
 use Rattle.checks.specs.Lists.{entry_index, after_first, level_ref_checks, levels_checks, lifecycle_checks, lifecycles_checks}
 
--- the index at entry i of table t
-abbrev pub indexes_at : List ℕ → List ℕ → ℕ → ℕ → ℕ
-indexes_at p s t i = index_at p (start_of s t + i)
-
 -- entry i of table t, one index in the field f, refers to table g
-abbrev pub index_checks : ℕ → ℕ → ℕ → Image → ℕ → List Check
+unfoldable pub index_checks : ℕ → ℕ → ℕ → Image → ℕ → List Check
 index_checks t f g m i = ref_to m.rows t i f g (m.indexes t i) ∷ []
 
 -- entry i of table t names an action
-abbrev pub startup_checks : ℕ → Image → ℕ → List Check
+unfoldable pub startup_checks : ℕ → Image → ℕ → List Check
 startup_checks t m i = ref_to m.rows t i field.action 3 (m.startups t i) ∷ []
 
 -- the triggers of action i, and of port i
@@ -31,7 +26,7 @@ port_trigger_checks m i =
     levels_checks m.rows m.reactions m.levels 8 (m.ports i).triggers.start (m.ports i).triggers.len
 
 -- entry k of the enabled modes of reaction i, which is the reactor's: the mode is there, and the reactor's too
-abbrev pub enabled_mode_checks : (ℕ → ℕ) → (ℕ → ModeImage) → (ℕ → ℕ → ℕ) → ℕ → ℕ → ℕ → ℕ → List Check
+unfoldable pub enabled_mode_checks : (ℕ → ℕ) → (ℕ → ModeImage) → (ℕ → ℕ → ℕ) → ℕ → ℕ → ℕ → ℕ → List Check
 enabled_mode_checks rows modes indexes i reactor start k =
     ref_to rows 12 (entry_index start k) field.mode 6 (indexes 12 (start + k))
     ∷ need (eqb (modes (indexes 12 (start + k))).reactor.0 reactor) (OwnershipMismatch 5 i field.enabled_modes_reactor)
@@ -52,10 +47,10 @@ scope_list_checks m i =
     ++ lifecycles_checks m.rows m.reactions m.lifecycles 18 (m.scopes i).shutdown_reactions.start (m.scopes i).shutdown_reactions.len)
 
 -- every entry of table t, whether or not some range covers it
-abbrev pub level_entry_checks : ℕ → Image → ℕ → List Check
+unfoldable pub level_entry_checks : ℕ → Image → ℕ → List Check
 level_entry_checks t m i = level_ref_checks m.rows m.reactions t i (m.levels t i)
 
-abbrev pub lifecycle_entry_checks : ℕ → Image → ℕ → List Check
+unfoldable pub lifecycle_entry_checks : ℕ → Image → ℕ → List Check
 lifecycle_entry_checks t m i =
     (ref_to m.rows t i field.action 3 (m.lifecycles t i).action.0 ∷ [])
     ++ level_ref_checks m.rows m.reactions t i (m.lifecycles t i).reaction
@@ -65,7 +60,7 @@ abbrev pub shutdown_reaction_checks : Image → ℕ → List Check
 shutdown_reaction_checks m i = lifecycle_checks m.rows m.reactions m.lifecycles 21 0 i
 
 -- the shutdown actions: each there, and above the one before
-abbrev pub index_order_checks : ℕ → ℕ → ℕ → ℕ → List Check
+unfoldable pub index_order_checks : ℕ → ℕ → ℕ → ℕ → List Check
 index_order_checks t i v before =
     need (not (eqb v before)) (DuplicateEntry t i) ∷ need (not (ltb v before)) (EntriesNotSorted t i) ∷ []
 

@@ -1,1 +1,191 @@
+// The list tables of one index or one startup, the enabled modes of reactions, and the shutdown actions.
+ghost use Rattle.std.specs.Prelude.{◌≡◌, ◌<◌};
+ghost use Rattle.answers.specs.Checks.{first, run};
+ghost use Rattle.schema.specs.Tables.{tables};
+ghost use Rattle.checks.specs.Image.{image_of};
+ghost use Rattle.list_checks.specs.ListTables.{index_checks, startup_checks, enabled_mode_checks, enabled_modes_checks, index_order_checks, shutdown_action_checks};
 
+use answers::{Outcome, Refusal, field};
+use checks::Found;
+use checks::lists::entry_index;
+use checks::refs::{check_action_ref, check_mode_ref, check_port_ref, check_scope_ref};
+use schema::index::{ReactionIndex, ReactorIndex};
+use schema::lent::Enclave;
+use schema::lists::{
+    ActionEntry, ModeEntry, PortEntry, ReactionMode, ScopeEntry, ShutdownAction, StartupEntry,
+};
+use schema::rows::{ModeImage, ReactionImage};
+
+// Every entry of table T names a port that is there; and so for actions, modes and scopes.
+#[tactic(auto, using(answers::proofs::Loops::run_laws), unfolding(answers::specs::Checks::first, crate::specs::ListTables::index_checks))]
+pub fn check_port_entries<const T: u8>(e: Enclave) -> Outcome
+    requires { T < tables }
+    ensures { let m = image_of e.entry in result ≡ first (run (index_checks T 30 4 m) 0 (m.rows T)) }
+{
+    for i in 0..e.rows(T) {
+        let entry = PortEntry::<T>::row(e, i as usize);
+        let found = check_port_ref(e, T, i, field::PORT, entry.0);
+        let Found::Row(_) = found else {
+            return found.refused();
+        };
+    }
+    Outcome::Passed
+}
+
+#[tactic(auto, using(answers::proofs::Loops::run_laws), unfolding(answers::specs::Checks::first, crate::specs::ListTables::index_checks))]
+pub fn check_action_entries<const T: u8>(e: Enclave) -> Outcome
+    requires { T < tables }
+    ensures { let m = image_of e.entry in result ≡ first (run (index_checks T 29 3 m) 0 (m.rows T)) }
+{
+    for i in 0..e.rows(T) {
+        let entry = ActionEntry::<T>::row(e, i as usize);
+        let found = check_action_ref(e, T, i, field::ACTION, entry.0);
+        let Found::Row(_) = found else {
+            return found.refused();
+        };
+    }
+    Outcome::Passed
+}
+
+#[tactic(auto, using(answers::proofs::Loops::run_laws), unfolding(answers::specs::Checks::first, crate::specs::ListTables::index_checks))]
+pub fn check_mode_entries<const T: u8>(e: Enclave) -> Outcome
+    requires { T < tables }
+    ensures { let m = image_of e.entry in result ≡ first (run (index_checks T 20 6 m) 0 (m.rows T)) }
+{
+    for i in 0..e.rows(T) {
+        let entry = ModeEntry::<T>::row(e, i as usize);
+        let found = check_mode_ref(e, T, i, field::MODE, entry.0);
+        let Found::Row(_) = found else {
+            return found.refused();
+        };
+    }
+    Outcome::Passed
+}
+
+#[tactic(auto, using(answers::proofs::Loops::run_laws), unfolding(answers::specs::Checks::first, crate::specs::ListTables::index_checks))]
+pub fn check_scope_entries<const T: u8>(e: Enclave) -> Outcome
+    requires { T < tables }
+    ensures { let m = image_of e.entry in result ≡ first (run (index_checks T 6 7 m) 0 (m.rows T)) }
+{
+    for i in 0..e.rows(T) {
+        let entry = ScopeEntry::<T>::row(e, i as usize);
+        let found = check_scope_ref(e, T, i, field::SCOPE, entry.0);
+        let Found::Row(_) = found else {
+            return found.refused();
+        };
+    }
+    Outcome::Passed
+}
+
+// Every startup of table T names an action that is there.
+#[tactic(auto, using(answers::proofs::Loops::run_laws), unfolding(answers::specs::Checks::first, crate::specs::ListTables::startup_checks))]
+pub fn check_startup_entries<const T: u8>(e: Enclave) -> Outcome
+    requires { T < tables }
+    ensures { let m = image_of e.entry in result ≡ first (run (startup_checks T m) 0 (m.rows T)) }
+{
+    for i in 0..e.rows(T) {
+        let startup = StartupEntry::<T>::row(e, i as usize).0;
+        let found = check_action_ref(e, T, i, field::ACTION, startup.action);
+        let Found::Row(_) = found else {
+            return found.refused();
+        };
+    }
+    Outcome::Passed
+}
+
+// Entry k of the enabled modes of reaction i: the mode is there, and of the reaction's reactor.
+#[tactic(auto, unfolding(answers::specs::Checks::first, crate::specs::ListTables::enabled_mode_checks))]
+fn check_enabled_mode(e: Enclave, i: u32, reactor: ReactorIndex, start: u32, k: u32) -> Outcome
+    ensures { let m = image_of e.entry in result ≡ first (enabled_mode_checks m.rows m.modes m.indexes i reactor.0 start k) }
+{
+    let key = ReactionMode::row(e, start as usize + k as usize).0;
+    let index = entry_index(start, k);
+    let found = check_mode_ref(e, ReactionMode::TABLE, index, field::MODE, key);
+    let Found::Row(mode) = found else {
+        return found.refused();
+    };
+    if ModeImage::row(e, mode).reactor.0 == reactor.0 {
+        return Outcome::Passed;
+    }
+    Outcome::Refused(Refusal::OwnershipMismatch {
+        table: ReactionImage::TABLE,
+        index: i,
+        field: field::ENABLED_MODES_REACTOR,
+    })
+}
+
+// The enabled modes of reaction i.
+#[tactic(auto, using(answers::proofs::Loops::run_laws), unfolding(crate::specs::ListTables::enabled_modes_checks))]
+fn check_modes_of(e: Enclave, i: u32) -> Outcome
+    ensures { result ≡ first (enabled_modes_checks (image_of e.entry) i) }
+{
+    let reaction = ReactionImage::row(e, ReactionIndex(i));
+    let enabled = reaction.enabled_modes;
+    for k in 0..enabled.len {
+        let outcome = check_enabled_mode(e, i, reaction.reactor, enabled.start, k);
+        let Outcome::Passed = outcome else {
+            return outcome;
+        };
+    }
+    Outcome::Passed
+}
+
+// The enabled modes of every reaction.
+#[tactic(auto, using(answers::proofs::Loops::run_laws))]
+pub fn check_enabled_modes(e: Enclave) -> Outcome
+    ensures { let m = image_of e.entry in result ≡ first (run (enabled_modes_checks m) 0 (m.rows 5)) }
+{
+    for i in 0..e.rows(ReactionImage::TABLE) {
+        let outcome = check_modes_of(e, i);
+        let Outcome::Passed = outcome else {
+            return outcome;
+        };
+    }
+    Outcome::Passed
+}
+
+// An entry is above the one before it.
+#[tactic(auto, unfolding(answers::specs::Checks::first, crate::specs::ListTables::index_order_checks))]
+fn check_index_order(table: u8, index: u32, key: u32, before: u32) -> Outcome
+    ensures { result ≡ first (index_order_checks table index key before) }
+{
+    if key == before {
+        return Outcome::Refused(Refusal::DuplicateEntry { table, index });
+    }
+    if key < before {
+        return Outcome::Refused(Refusal::EntriesNotSorted { table, index });
+    }
+    Outcome::Passed
+}
+
+// Entry i of the shutdown actions names `key`, which is there, and the entry before it names `before`.
+#[tactic(auto, unfolding(answers::specs::Checks::first, crate::specs::ListTables::index_checks, crate::specs::ListTables::shutdown_action_checks))]
+fn check_shutdown_action(e: Enclave, i: u32) -> Outcome
+    ensures { result ≡ first (shutdown_action_checks (image_of e.entry) i) }
+{
+    let table = ShutdownAction::TABLE;
+    let key = ShutdownAction::row(e, i as usize).0;
+    let found = check_action_ref(e, table, i, field::ACTION, key);
+    let Found::Row(action) = found else {
+        return found.refused();
+    };
+    if i == 0 {
+        return Outcome::Passed;
+    }
+    let before = ShutdownAction::row(e, (i - 1) as usize).0;
+    check_index_order(table, i, action.0, before.0)
+}
+
+// Every shutdown action.
+#[tactic(auto, using(answers::proofs::Loops::run_laws))]
+pub fn check_shutdown_actions(e: Enclave) -> Outcome
+    ensures { let m = image_of e.entry in result ≡ first (run (shutdown_action_checks m) 0 (m.rows 22)) }
+{
+    for i in 0..e.rows(ShutdownAction::TABLE) {
+        let outcome = check_shutdown_action(e, i);
+        let Outcome::Passed = outcome else {
+            return outcome;
+        };
+    }
+    Outcome::Passed
+}

@@ -1,0 +1,46 @@
+// Identities: valid, and above the identity before.
+ghost use Rattle.std.specs.Prelude.{◌≡◌, [], ◌∷◌};
+ghost use Rattle.answers.specs.Checks.{first};
+ghost use Rattle.checks.specs.Image.{image_of};
+ghost use Rattle.checks.specs.Identities.{id_check, text_order_checks};
+
+use answers::{Outcome, Refusal};
+use identity::compare::compare_bytes;
+use identity::place::identity_text;
+use identity::scan::valid_id;
+use identity::{ByteOrder, IdentityPlace};
+use schema::lent::Enclave;
+
+// An identity of a row, whose text is lent, is valid.
+pub fn validate_text(kind: u8, index: u32, id: IdentityPlace, text: &[u8]) -> Outcome
+    ensures { result ≡ first (id_check (λ _. text.now) kind index id ∷ []) }
+{
+    if valid_id(text) {
+        return Outcome::Passed;
+    }
+    Outcome::Refused(Refusal::InvalidStableId { kind, index, id })
+}
+
+// An identity of a row of an enclave is valid.
+pub fn validate_id(e: Enclave, kind: u8, index: u32, id: IdentityPlace) -> Outcome
+    ensures { result ≡ first (id_check (image_of e.entry).text kind index id ∷ []) }
+{
+    validate_text(kind, index, id, identity_text(e.batch, e.house, id))
+}
+
+// An identity of a row differs from the one before, and is not below it; both texts are lent.
+pub fn validate_text_order(
+    kind: u8,
+    index: u32,
+    id: IdentityPlace,
+    text: &[u8],
+    before: &[u8],
+) -> Outcome
+    ensures { result ≡ first (text_order_checks kind index id text.now before.now) }
+{
+    match compare_bytes(text, before) {
+        ByteOrder::Less => Outcome::Refused(Refusal::StableIdsNotSorted { kind, index, id }),
+        ByteOrder::Equal => Outcome::Refused(Refusal::DuplicateStableId { kind, index, id }),
+        ByteOrder::Greater => Outcome::Passed,
+    }
+}
