@@ -6,6 +6,4 @@ pub mod Unicode
 pub mod Utf8
 pub mod Valid
 pub mod Order
-pub mod Text
 pub mod Window
-pub mod Short

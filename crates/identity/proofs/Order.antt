@@ -1,7 +1,7 @@
 -- The order of two texts, byte by byte. Assumes nothing.
-use Prim.Native.Nat.{ℕ, zero, suc, ◌+◌, ◌<◌, ◌≤◌}
+use Prim.Native.Nat.{ℕ, ◌+◌, ◌<◌, ◌≤◌}
 use mathlib.Core.Bool.{Bool, true}
-use mathlib.Core.Path.{◌≡◌, refl, ◌∙◌, ap, sym}
+use mathlib.Core.Path.{◌≡◌, refl, ◌∙◌, sym}
 use mathlib.Core.List.{List, [], ◌∷◌}
 use native.Mathlib.Numerals.{add-one}
 use native.Mathlib.Omega.{arith}
@@ -10,13 +10,13 @@ use lib.ListN.{length, get_or, drop_of_length-le}
 use lib.Seq.{drop-cons}
 use borrow.Author.Tests.{ltb-false, lt-ltb, le-ltb, eqb-true}
 use Rattle.identity.specs.declared.ByteOrder.TheVariants.{Less, Equal, Greater}
-use Rattle.identity.specs.Order.{compared, is_greater}
-use Rattle.identity.specs.Scan.{every, same_at, Tied, number, Leading}
-use Rattle.identity.proofs.Tests.{cases, below_or_not}
+use Rattle.identity.specs.Order.{compared}
+use Rattle.identity.specs.Scan.{every, same_at, Tied}
+use Rattle.identity.proofs.Tests.{cases}
 use Rattle.identity.proofs.Steps.{along}
 
 pub tied-start : (a b : List ℕ) → Tied a b 0
-tied-start a b = record { same = refl }
+tied-start a b = record { inside_left = omega arith; inside_right = omega arith; same = refl }
 
 pub a-longer : {a b : List ℕ} {i : ℕ} → Tied a b i → i < length a → length b ≤ i → Greater ≡ compared a b
 unfolding compared
@@ -41,7 +41,11 @@ b-below {a} {b} {i} t l h y x = sym (t.same ∙ rw (drop-cons a i 0, drop-cons b
 pub tied-step : {a b : List ℕ} {i : ℕ} → Tied a b i → i < length a → i < length b → get_or b i 0 ≤ get_or a i 0 → get_or a i 0 ≤ get_or b i 0 → Tied a b (i + 1)
 unfolding compared
 tied-step {a} {b} {i} t l h y x =
-    record { same = t.same ∙ rw (add-one, drop-cons a i 0, drop-cons b i 0, le-ltb _ _ y, le-ltb _ _ x) }
+    record {
+      inside_left = omega arith;
+      inside_right = omega arith;
+      same = t.same ∙ rw (add-one, drop-cons a i 0, drop-cons b i 0, le-ltb _ _ y, le-ltb _ _ x);
+    }
 
 pub tied-block : {a b : List ℕ} {i : ℕ} (x : Bool) → Tied a b i → x ≡ every (same_at a b) i 16 → x ≡ true → i + 16 ≤ length a → i + 16 ≤ length b → Tied a b (i + 16)
 tied-block {a} {b} {i} x t e f l h =
@@ -49,47 +53,7 @@ tied-block {a} {b} {i} x t e f l h =
     let n = eqb-true (get_or a j 0) (get_or b j 0) q in
     tied-step p (omega arith) (omega arith) (omega arith) (omega arith)) (sym e ∙ f) t
 
-pub ruleset order-laws = (a-longer, b-longer, both_end, a-below, b-below, tied-step)
-
--- the numbers of the first k bytes decide where they differ, and else the rest does
-record Led (a b : List ℕ) (m n k : ℕ) : Type 0 where
-  less : m < n → Less ≡ compared a b
-  tied : m ≡ n → Tied a b k
-  more : n < m → Greater ≡ compared a b
-
-module _ {a b : List ℕ} (f : (i : ℕ) → get_or a i 0 < 256) (g : (i : ℕ) → get_or b i 0 < 256) where
-  led : (k : ℕ) → k ≤ length a → k ≤ length b → Led a b (number a k) (number b k) k
-  unfolding number
-  led zero l h =
-      record { less = λ d. absurd (omega arith); tied = λ _. tied-start a b; more = λ d. absurd (omega arith) }
-  led (suc k) l h =
-      let p = led k (omega arith) (omega arith) in
-      let x = f k in
-      let y = g k in
-      record {
-        less = λ d. below_or_not (number a k) (number b k) p.less (λ r. a-below (p.tied (omega arith)) l h (omega arith));
-        tied = λ e. rw add-one at (tied-step (p.tied (omega arith)) l h (omega arith) (omega arith));
-        more = λ d. below_or_not (number b k) (number a k) p.more (λ r. b-below (p.tied (omega arith)) l h (omega arith) (omega arith));
-      }
-
-module _ {a b : List ℕ} {k m n : ℕ} (p : Leading a k m) (q : Leading b k n) where
-  lead : Led a b m n k
-  lead = rw (p.value, q.value) (led p.bytes q.bytes k p.inside q.inside)
-
-  pub lead-less : m < n → Less ≡ compared a b
-  lead-less = lead.less
-
-  pub lead-more : n < m → Greater ≡ compared a b
-  lead-more = lead.more
-
-  pub lead-above : (m ≡ n → ⊥) → ltb n m ≡ is_greater (compared a b)
-  lead-above d =
-      below_or_not n m
-      (λ h. lt-ltb n m h ∙ ap is_greater (lead-more h))
-      (λ h. le-ltb n m h ∙ ap is_greater (lead-less (other d h)))
-    where
-      other : (m ≡ n → ⊥) → m ≤ n → m < n
-      other d h = omega arith
+pub ruleset order_laws = (tied-start, tied-block, a-longer, b-longer, both_end, a-below, b-below, tied-step)
 
 -- Equal stands for equal texts, and for no others
 pub compared_same : (a : List ℕ) → compared a a ≡ Equal

@@ -1,7 +1,7 @@
 -- One scalar of a text, and the decoder on what is left. Assumes nothing.
 use Prim.Native.Nat.{ℕ, zero, suc, ◌+◌, ◌*◌, ◌-◌, ◌^◌, ◌<◌, ◌≤◌}
 use mathlib.Core.Bool.{Bool, true, ◌&&◌}
-use mathlib.Core.Path.{◌≡◌, refl, ◌∙◌, ap, sym, subst}
+use mathlib.Core.Path.{◌≡◌, refl, ◌∙◌, sym, subst}
 use mathlib.Core.List.{List, [], ◌∷◌}
 use native.Mathlib.Nat.{add-zero, zero-add}
 use native.Mathlib.Omega.{arith}
@@ -16,25 +16,14 @@ use Rattle.identity.specs.Within.{within}
 use Rattle.identity.specs.declared.decode.Decoded.{Decoded}
 use Rattle.identity.specs.declared.decode.Decoded.TheVariants.{Scalar, Malformed}
 use Rattle.identity.specs.Utf8.{allowed, follows, checked, value_of_two, value_of_three, value_of_four, two_bytes, three_bytes, four_bytes, scalar_of, scalar_at}
-use Rattle.identity.specs.Scan.{width_of}
 use Rattle.identity.specs.Utf8.{some, none, before, in_front, decode_after, decode}
-use Rattle.identity.proofs.Tests.{cases, both, within-true, within_in, within-below, within-above}
+use Rattle.identity.proofs.Tests.{cases, both, within-true, within_in, within-above}
 
 -- the scalar at a place, by its first byte
 module _ (s : List ℕ) (i : ℕ) where
   pub one_byte : (v : ℕ) → get_or s i 0 < 0x80 → v ≡ get_or s i 0 → Scalar v 1 ≡ scalar_at s i
   unfolding scalar_at
   one_byte v h e = rw (e, within_in 0x00 0x7F (get_or s i 0) (omega arith) (omega arith))
-
-  pub no-first : 0x80 ≤ get_or s i 0 → get_or s i 0 < 0xC2 → Malformed ≡ scalar_at s i
-  unfolding scalar_at
-  no-first l h =
-      rw (
-        within-above 0x00 0x7F (get_or s i 0) (omega arith),
-        within-below 0xC2 0xDF (get_or s i 0) h,
-        within-below 0xE0 0xEF (get_or s i 0) (omega arith),
-        within-below 0xF0 0xF4 (get_or s i 0) (omega arith),
-      )
 
   pub by_two : (b : ℕ) (x : Decoded) → 0xC2 ≤ get_or s i 0 → get_or s i 0 < 0xE0 → b ≡ get_or s (i + 1) 0 → x ≡ two_bytes (get_or s i 0) b → x ≡ scalar_at s i
   unfolding scalar_at
@@ -71,44 +60,6 @@ module _ (s : List ℕ) (i : ℕ) where
         ← ed,
       )
       e
-
-  pub past_first : 0xF5 ≤ get_or s i 0 → Malformed ≡ scalar_at s i
-  unfolding scalar_at
-  past_first l =
-      rw (
-        within-above 0x00 0x7F (get_or s i 0) (omega arith),
-        within-above 0xC2 0xDF (get_or s i 0) (omega arith),
-        within-above 0xE0 0xEF (get_or s i 0) (omega arith),
-        within-above 0xF0 0xF4 (get_or s i 0) l,
-      )
-
-  -- its width, from what `scalar_width` finds of the value v and the following bytes
-  pub wide-one : get_or s i 0 < 0x80 → 1 ≡ width_of (scalar_at s i)
-  unfolding width_of
-  wide-one h = ap width_of (one_byte (get_or s i 0) h refl)
-
-  pub wide-no-first : 0x80 ≤ get_or s i 0 → get_or s i 0 < 0xC2 → 0 ≡ width_of (scalar_at s i)
-  unfolding width_of
-  wide-no-first l h = ap width_of (no-first l h)
-
-  pub wide-two : (b v r : ℕ) (f : Bool) → 0xC2 ≤ get_or s i 0 → get_or s i 0 < 0xE0 → b ≡ get_or s (i + 1) 0 → f ≡ follows b → v ≡ value_of_two (get_or s i 0) b → r ≡ width_of (checked f 0x80 v 2) → r ≡ width_of (scalar_at s i)
-  wide-two b v r f l h eb ef ev e = e ∙ rw (ef, ev) (ap width_of (by_two b (two_bytes (get_or s i 0) b) l h eb refl))
-
-  pub wide-three : (b c v r : ℕ) (f g : Bool) → 0xE0 ≤ get_or s i 0 → get_or s i 0 < 0xF0 → b ≡ get_or s (i + 1) 0 → c ≡ get_or s (i + 2) 0 → f ≡ follows b → g ≡ follows c → v ≡ value_of_three (get_or s i 0) b c → r ≡ width_of (checked (f && g) 0x800 v 3) → r ≡ width_of (scalar_at s i)
-  wide-three b c v r f g l h eb ec ef eg ev e =
-      e ∙ rw (ef, eg, ev) (ap width_of (by_three b c (three_bytes (get_or s i 0) b c) l h eb ec refl))
-
-  pub wide-four : (b c d v r : ℕ) (f g k : Bool) → 0xF0 ≤ get_or s i 0 → get_or s i 0 < 0xF5 → b ≡ get_or s (i + 1) 0 → c ≡ get_or s (i + 2) 0 → d ≡ get_or s (i + 3) 0 → f ≡ follows b → g ≡ follows c → k ≡ follows d → v ≡ value_of_four (get_or s i 0) b c d → r ≡ width_of (checked (f && (g && k)) 0x10000 v 4) → r ≡ width_of (scalar_at s i)
-  wide-four b c d v r f g k l h eb ec ed ef eg ek ev e =
-      e ∙ rw (ef, eg, ek, ev) (ap width_of (by-four b c d (four_bytes (get_or s i 0) b c d) l h eb ec ed refl))
-
-  pub wide-past-first : 0xF5 ≤ get_or s i 0 → 0 ≡ width_of (scalar_at s i)
-  unfolding width_of
-  wide-past-first l = ap width_of (past_first l)
-
-pub ruleset width-laws = (wide-one, wide-no-first, wide-two, wide-three, wide-four, wide-past-first)
-
-pub ruleset scalar-laws = (one_byte, no-first, by_two, by_three, by-four, past_first)
 
 pub ascii-scalar : (s : List ℕ) (i : ℕ) → get_or s i 0 < 0x80 → scalar_at s i ≡ Scalar (get_or s i 0) 1
 ascii-scalar s i h = sym (one_byte s i (get_or s i 0) h refl)
@@ -202,8 +153,8 @@ pub ends_at : (s : List ℕ) (i : ℕ) {v w : ℕ} → i < length s → scalar_a
 ends_at s i h e = ends s i h (form-at s i e)
 
 -- the next place, after the scalar that x says stands at i
-pub next_fits : (s : List ℕ) (i : ℕ) (x : Decoded) (v w : ℕ) → x ≡ scalar_at s i → x ≡ Scalar v w → i < length s → length s * 1 < 2 ^ 63 → Fits w64 (i + w)
-next_fits s i x v w e f h l = let n = ends_at s i h (sym e ∙ f) in Fits-le n (record { fits = omega arith })
+pub next_fits : (s : List ℕ) (i : ℕ) (v w : ℕ) → Scalar v w ≡ scalar_at s i → i < length s → length s * 1 < 2 ^ 63 → Fits w64 (i + w)
+next_fits s i v w e h l = let n = ends_at s i h (sym e) in Fits-le n (record { fits = omega arith })
 
 -- bytes that are passed over are left off
 after-drop : (s : List ℕ) (k : ℕ) → decode_after s k ≡ decode (drop k s)

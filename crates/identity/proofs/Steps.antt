@@ -2,7 +2,7 @@
 use Prim.Native.Nat.{ℕ, zero, suc, ◌+◌, ◌-◌, ◌<◌, ◌≤◌}
 use mathlib.Core.Bool.{Bool, true, false, not, ◌&&◌}
 use mathlib.Core.Path.{◌≡◌, refl, ◌∙◌, sym}
-use native.Mathlib.Nat.{add-zero, zero-add, add-suc}
+use native.Mathlib.Nat.{add-zero, add-suc}
 use native.Mathlib.Numerals.{add-one}
 use native.Mathlib.Omega.{arith}
 use borrow.Author.Tests.{not-true}
@@ -37,39 +37,10 @@ pub every_one : (test : ℕ → Bool) (o k : ℕ) (a b : Bool) → a ≡ every t
 unfolding every
 every_one test o k a b e f = rw (add-one, e, f)
 
--- four places at once
-pub every-four : (test : ℕ → Bool) (o : ℕ) (a b c d : Bool) → a ≡ test o → b ≡ test (o + 1) → c ≡ test (o + 2) → d ≡ test (o + 3) → (a && b) && (c && d) ≡ every test o 4
-unfolding every
-every-four test o a b c d ea eb ec ed =
-    let z : o + 0 ≡ o = omega arith in
-    rw (ea, eb, ec, ed, z) (sym (and_assoc (test o && test (o + 1)) (test (o + 2)) (test (o + 3))))
+pub every_to : (test : ℕ → Bool) (o k n : ℕ) (a : Bool) → a ≡ every test o k → k ≤ n → n ≤ k → a ≡ every test o n
+every_to test o k n a e l h = let z : k ≡ n = omega arith in rw z at e
 
--- eight places by two fours
-pub every-eight : (test : ℕ → Bool) (o : ℕ) (a b : Bool) → a ≡ every test o 4 → b ≡ every test (o + 4) 4 → a && b ≡ every test o 8
-every-eight test o a b ea eb = rw (ea, eb) (sym (every-add test o 4 4))
-
--- the first n places by the first k of them and the last k, which leave none out
-every_first : (test : ℕ → Bool) (o i k : ℕ) → every test o (i + k) ≡ true → every test o i ≡ true
-every_first test o i k e = (both (every test o i) (every test (o + i) k) (sym (every-add test o i k) ∙ e)).0
-
--- two parts that leave no place out, the first k of n and the last k
-middle : (x y z : Bool) → (x && y) && (y && z) ≡ x && (y && z)
-middle true true z = refl
-middle true false z = refl
-middle false y z = refl
-
-pub every-overlap : (test : ℕ → Bool) (k n : ℕ) {a b : Bool} → k ≤ n → n ≤ k + k → a ≡ every test 0 k → b ≡ every test (n - k) k → a && b ≡ every test 0 n
-every-overlap test k n l h ea eb =
-    let i : (n - k) + (k - (n - k)) ≡ k = omega arith in
-    let j : (k - (n - k)) + (n - k) ≡ k = omega arith in
-    let m : (n - k) + k ≡ n = omega arith in
-    let x = rw (i, zero-add) at (every-add test 0 (n - k) (k - (n - k))) in
-    let y = rw j at (every-add test (n - k) (k - (n - k)) (n - k)) in
-    let z = rw (m, zero-add) at (every-add test 0 (n - k) k) in
-    rw (ea, eb, x, z, y) (middle (every test 0 (n - k)) (every test (n - k) (k - (n - k))) _)
-
-pub run-overlap : {test : ℕ → Bool} (k n : ℕ) {a b : Bool} → k ≤ n → n ≤ k + k → a ≡ every test 0 k → b ≡ every test (n - k) k → a && b ≡ true → Run test 0 n n
-run-overlap {test} k n l h ea eb t = record { inside = omega arith; all = sym (every-overlap test k n l h ea eb) ∙ t }
+pub ruleset block_laws = (every-none, every_one, every_to)
 
 -- the loop over blocks
 pub run_none : (test : ℕ → Bool) (o end : ℕ) → o ≤ end → Run test o 0 end
@@ -79,13 +50,7 @@ run_none test o end h = record { inside = omega arith; all = refl }
 pub run-block : {test : ℕ → Bool} {o k end : ℕ} (b : Bool) → Run test o k end → b ≡ every test (o + k) 16 → b ≡ true → o + (k + 16) ≤ end → Run test o (k + 16) end
 run-block {test} {o} {k} b p e t h = record { inside = h; all = rw (every-add test o k 16, p.all) (sym e ∙ t) }
 
--- a block by itself, and one place
-pub run-whole : (test : ℕ → Bool) (o k end : ℕ) (b : Bool) → b ≡ every test o k → b ≡ true → o + k ≤ end → Run test o k end
-run-whole test o k end b e t h = record { inside = h; all = sym e ∙ t }
-
-pub run-one : (test : ℕ → Bool) (o end : ℕ) → test o ≡ true → o < end → Run test o 1 end
-unfolding every
-run-one test o end e h = record { inside = omega arith; all = rw add-zero e }
+pub ruleset run_laws = (run_none, run-block)
 
 -- what passes over each place of a run passes over all of them
 pub along : (test : ℕ → Bool) (P : ℕ → Type 0) (o k : ℕ) → ((j : ℕ) → o ≤ j → j < o + k → test j ≡ true → P j → P (j + 1)) → every test o k ≡ true → P o → P (o + k)
@@ -106,10 +71,6 @@ module _ (good : ℕ → Bool) (end i : ℕ) where
     where
       none : w ≡ 0 → ⊥
       none z = omega arith
-
-  pub moved-along : (test : ℕ → Bool) (k : ℕ) → i + k ≤ end → every test i k ≡ true → (k ≡ 0 → ⊥) → ((j : ℕ) → i ≤ j → j < i + k → test j ≡ true → good j ≡ good (j + 1)) → Stepped good end i k
-  moved-along test k h e d f =
-      moved k h (omega arith) (along test (λ j. good i ≡ good j) i k (λ j a b t p. p ∙ f j a b t) e refl)
 
   pub passed_none : i ≤ end → Passed good end i 0
   passed_none h = record { inside = omega arith; same = rw add-zero }
@@ -139,4 +100,4 @@ module _ {whole : Bool} {good : ℕ → Bool} {end i w : ℕ} (p : Kept whole go
   pub kept_less : (w ≡ 0 → ⊥) → end - (i + w) < end - i
   kept_less d = let h = q.inside in omega arith
 
-pub ruleset step-laws = (kept_on, kept-stop, kept_less)
+pub ruleset kept_laws = (kept_on, kept-stop, kept_less)

@@ -5,7 +5,8 @@ use mathlib.Core.Path.{◌≡◌, refl}
 use mathlib.Core.List.{List, [], ◌∷◌}
 use native.Mathlib.Omega.{arith}
 use Rattle.identity.specs.Unicode.{controls, white_spaces, control, white_space}
-use Rattle.identity.specs.Scan.{printable, visible}
+use Rattle.identity.specs.Within.{within}
+use Rattle.identity.specs.Scan.{printable}
 use Rattle.identity.proofs.Tests.{within-true, within-below, within-above}
 
 abbrev size : List (ℕ × ℕ) → ℕ
@@ -24,7 +25,7 @@ printable-no-control v e =
     let h = within-true 0x20 0x7E v e in
     rw (within-above 0x0000 0x001F v (omega arith), within-below 0x007F 0x009F v (omega arith))
 
-pub visible-no-space : (v : ℕ) → visible v ≡ true → white_space v ≡ false
+pub visible-no-space : (v : ℕ) → within 0x21 0x7E v ≡ true → white_space v ≡ false
 unfolding white_space
 visible-no-space v e =
     let h = within-true 0x21 0x7E v e in

@@ -2,25 +2,22 @@
 use Prim.Native.Nat.{ℕ, ◌+◌, ◌-◌, ◌<◌, ◌≤◌}
 use mathlib.Core.Bool.{Bool, true, false, not, ◌&&◌, ◌||◌, cond}
 use mathlib.Core.Path.{◌≡◌, refl, ◌∙◌, ap, sym}
+use Rattle.std.proofs.Common.{◌≢◌}
 use mathlib.Core.List.{List, [], ◌∷◌}
 use native.Mathlib.Omega.{arith}
-use lib.Dec.{eqb}
+use lib.Dec.{ltb, eqb}
 use lib.ListN.{length, drop, get_or}
 use borrow.Author.Tests.{eqb-true, eqb-false, ne_eqb}
 use Rattle.identity.specs.declared.decode.Decoded.{Decoded}
 use Rattle.identity.specs.declared.decode.Decoded.TheVariants.{Scalar, Malformed}
-use Rattle.identity.specs.Utf8.{Scalars, some, none, before, decode, is_some, utf8, scalar_at}
+use Rattle.identity.specs.Utf8.{Scalars, some, none, before, decode, scalar_at}
 use Rattle.identity.specs.Unicode.{control, white_space}
 use Rattle.identity.specs.Identity.{no_control, last, valid_scalars, valid_text, valid_id}
-use Rattle.identity.specs.Scan.{printable_at, visible_at, Run, Stepped, id_from}
-use Rattle.identity.proofs.Tests.{cases, and-false, within-true, within_in}
+use Rattle.identity.specs.Scan.{every, printable, ascii_at, refused, Stepped, id_from}
+use Rattle.identity.proofs.Tests.{cases, both, and-false, within-true, within_in}
 use Rattle.identity.proofs.Unicode.{printable-no-control, visible-no-space}
-use Rattle.identity.proofs.Steps.{stopped, moved, moved-along, Kept, kept_on}
-use Rattle.identity.proofs.Scalar.{ascii-scalar, width-at, ends_at, decode-at, decode-malformed, decode-end}
-
--- a scalar that no identity has at that place: a control, or white space at an edge
-abbrev refused : ℕ → Bool → Bool
-refused v edge = control v || (edge && white_space v)
+use Rattle.identity.proofs.Steps.{along, stopped, moved, passed-step, Kept, kept_laws}
+use Rattle.identity.proofs.Scalar.{ascii-scalar, width-at, ends_at, next_fits, decode-at, decode-malformed, decode-end}
 
 abbrev none_left : List ℕ → Bool
 none_left [] = true
@@ -115,63 +112,22 @@ at-scalar s i {v} {w} h e =
 pub over-scalar : (s : List ℕ) (i : ℕ) {v w : ℕ} → i < length s → scalar_at s i ≡ Scalar v w → refused v (eqb i 0 || eqb (i + w) (length s)) ≡ false → id_from s i ≡ id_from s (i + w)
 over-scalar s i h e r = at-scalar s i h e ∙ rw r
 
--- a step over a run of printable bytes, none of them at an edge
-over-printable : (s : List ℕ) (j : ℕ) → 0 < j → j + 1 < length s → printable_at s j ≡ true → id_from s j ≡ id_from s (j + 1)
-over-printable s j l h e =
-    let b = within-true 0x20 0x7E (get_or s j 0) e in
-    let f : eqb j 0 ≡ false = ne_eqb j 0 (λ q. omega arith) in
-    let g : eqb (j + 1) (length s) ≡ false = ne_eqb (j + 1) (length s) (λ q. omega arith) in
-    over-scalar s j (omega arith) (ascii-scalar s j (omega arith)) (rw (printable-no-control (get_or s j 0) e, f, g))
-
-pub id-run : (s : List ℕ) (i k : ℕ) → (i ≡ 0 → k ≡ 0) → Run (printable_at s) i k (length s - 1) → (k ≡ 0 → ⊥) → Stepped (id_from s) (length s) i k
-id-run s i k n p d =
-    let h = p.inside in
-    moved-along (id_from s) (length s) i (printable_at s) k (omega arith) p.all d
-    (λ j a l e. over-printable s j (later (λ z. d (n z)) a) (omega arith) e)
-  where
-    later : {j : ℕ} → (i ≡ 0 → ⊥) → i ≤ j → 0 < j
-    later m a = omega arith
-
--- a step over a run of visible bytes, at an edge or not
-over-visible : (s : List ℕ) (j : ℕ) → j < length s → visible_at s j ≡ true → id_from s j ≡ id_from s (j + 1)
-over-visible s j h v =
-    let r = within-true 0x21 0x7E (get_or s j 0) v in
-    let c : control (get_or s j 0) ≡ false = printable-no-control (get_or s j 0) (within_in 0x20 0x7E (get_or s j 0) (omega arith) (omega arith)) in
-    over-scalar s j h (ascii-scalar s j (omega arith)) (rw (c, visible-no-space (get_or s j 0) v) (and-false (eqb j 0 || eqb (j + 1) (length s))))
-
-pub id-visible : (s : List ℕ) (i k : ℕ) → Run (visible_at s) i k (length s) → (k ≡ 0 → ⊥) → Stepped (id_from s) (length s) i k
-id-visible s i k p d =
-    let h = p.inside in
-    moved-along (id_from s) (length s) i (visible_at s) k h p.all d (λ j _ l e. over-visible s j (omega arith) e)
-
--- a step over one scalar: x is what `utf8_scalar` found at i; c and b say whether the scalar v is a control, and white space
-module _ (s : List ℕ) (i : ℕ) (x : Decoded) (h : i < length s) (e : x ≡ scalar_at s i) where
-  pub id-malformed : x ≡ Malformed → Stepped (id_from s) (length s) i 0
-  id-malformed f =
+-- a step over what was found at i, a scalar or none; r says whether no identity has that scalar there
+module _ (s : List ℕ) (i : ℕ) (h : i < length s) where
+  pub id-malformed : Malformed ≡ scalar_at s i → Stepped (id_from s) (length s) i 0
+  id-malformed e =
       stopped (id_from s) (length s) i (omega arith)
-      (rest-is (eqb i 0) (decode (drop i s)) ∙ ap (valid_rest_text (eqb i 0)) (decode-malformed s i h (sym e ∙ f)))
+      (rest-is (eqb i 0) (decode (drop i s)) ∙ ap (valid_rest_text (eqb i 0)) (decode-malformed s i h (sym e)))
 
-  refuse : {v w : ℕ} → x ≡ Scalar v w → refused v (eqb i 0 || eqb (i + w) (length s)) ≡ true → Stepped (id_from s) (length s) i 0
-  refuse f r = stopped (id_from s) (length s) i (omega arith) (at-scalar s i h (sym e ∙ f) ∙ rw r)
+  pub id-refused : {v w : ℕ} (r : Bool) → Scalar v w ≡ scalar_at s i → r ≡ refused v (eqb i 0 || eqb (i + w) (length s)) → r ≡ true → Stepped (id_from s) (length s) i 0
+  id-refused r e g t =
+      stopped (id_from s) (length s) i (omega arith) (at-scalar s i h (sym e) ∙ rw (sym g ∙ t))
 
-  keep : {v w : ℕ} → x ≡ Scalar v w → refused v (eqb i 0 || eqb (i + w) (length s)) ≡ false → Stepped (id_from s) (length s) i w
-  keep {v} {w} f r =
-      let g = sym e ∙ f in
-      moved (id_from s) (length s) i w (ends_at s i h g) (width-at s i g).0 (over-scalar s i h g r)
+  pub id-scalar : {v w : ℕ} (r : Bool) → Scalar v w ≡ scalar_at s i → r ≡ refused v (eqb i 0 || eqb (i + w) (length s)) → r ≡ false → Stepped (id_from s) (length s) i w
+  id-scalar {v} {w} r e g t =
+      moved (id_from s) (length s) i w (ends_at s i h (sym e)) (width-at s i (sym e)).0 (over-scalar s i h (sym e) (sym g ∙ t))
 
-  pub id-control : {v w : ℕ} (c : Bool) → x ≡ Scalar v w → c ≡ control v → c ≡ true → Stepped (id_from s) (length s) i 0
-  id-control c f ec t = refuse f (rw (← ec, t))
-
-  pub id-space : {v w : ℕ} (c b : Bool) → x ≡ Scalar v w → c ≡ control v → c ≡ false → eqb i 0 || eqb (i + w) (length s) ≡ true → b ≡ white_space v → b ≡ true → Stepped (id_from s) (length s) i 0
-  id-space c b f ec n edge eb t = refuse f (rw (← ec, n, edge, ← eb, t))
-
-  pub id-edge : {v w : ℕ} (c b : Bool) → x ≡ Scalar v w → c ≡ control v → c ≡ false → eqb i 0 || eqb (i + w) (length s) ≡ true → b ≡ white_space v → b ≡ false → Stepped (id_from s) (length s) i w
-  id-edge c b f ec n edge eb t = keep f (rw (← ec, n, edge, ← eb, t))
-
-  pub id-inner : {v w : ℕ} (c : Bool) → x ≡ Scalar v w → c ≡ control v → c ≡ false → eqb i 0 || eqb (i + w) (length s) ≡ false → Stepped (id_from s) (length s) i w
-  id-inner c f ec n inner = keep f (rw (← ec, n, inner))
-
-pub ruleset id-laws = (id-run, id-malformed, id-control, id-space, id-edge, id-inner)
+pub ruleset step_laws = (passed-step, next_fits, id-malformed, id-refused, id-scalar)
 
 pub id-start : (s : List ℕ) → Kept (valid_id s) (id_from s) (length s) 0
 id-start s = record { inside = omega arith; same = refl }
@@ -180,17 +136,37 @@ pub id-end : (s : List ℕ) (i : ℕ) → Kept (valid_id s) (id_from s) (length 
 id-end s i p h =
     sym (p.same ∙ rest-is (eqb i 0) (decode (drop i s)) ∙ ap (valid_rest_text (eqb i 0)) (decode-end s i h))
 
--- a text that is one run of visible bytes
-pub id-whole : (s : List ℕ) → 0 < length s → Run (visible_at s) 0 (length s) (length s) → valid_id s ≡ true
-id-whole s h p =
-    let d : length s ≡ 0 → ⊥ = λ z. omega arith in
+-- a step over a printable byte, which is no blank where it is first or last
+over-printable : (s : List ℕ) (j : ℕ) → j < length s → ascii_at false s j ≡ true → (eqb j 0 || eqb (j + 1) (length s) ≡ true → get_or s j 0 ≢ 0x20) → id_from s j ≡ id_from s (j + 1)
+over-printable s j h q blank =
+    let v = get_or s j 0 in
+    let p = (both (ltb v 0x80) (printable v) q).1 in
+    let r = within-true 0x20 0x7E v p in
+    let c = printable-no-control v p in
+    over-scalar s j h (ascii-scalar s j (omega arith))
+    (cases (eqb j 0 || eqb (j + 1) (length s))
+    (λ t.
+    let n = blank t in
+    rw (c, t, visible-no-space v (within_in 0x21 0x7E v (omega arith) (omega arith))))
+    (λ f. rw (c, f)))
+
+-- a text of printable ASCII alone, with no blank first or last
+pub id_plain : (s : List ℕ) (a : Bool) → length s ≢ 0 → get_or s 0 0 ≢ 0x20 → get_or s (length s - 1) 0 ≢ 0x20 → a ≡ every (ascii_at false s) 0 (length s) → a ≡ true → valid_id s ≡ true
+id_plain s a d first final e t =
+    let rest : valid_id s ≡ id_from s (0 + length s) =
+    along (ascii_at false s) (λ j. valid_id s ≡ id_from s j) 0 (length s)
+    (λ j _ l q r. r ∙ over-printable s j (omega arith) q (edge j))
+    (sym e ∙ t) refl
+    in
     let f : eqb (0 + length s) 0 ≡ false = ne_eqb (0 + length s) 0 (λ z. omega arith) in
-    sym (id-end s (0 + length s) (kept_on (id-start s) (id-visible s 0 (length s) p d) d) (omega arith)) ∙ rw f
+    sym (id-end s (0 + length s) (record { inside = omega arith; same = rest }) (omega arith)) ∙ rw f
+  where
+    edge : (j : ℕ) → eqb j 0 || eqb (j + 1) (length s) ≡ true → get_or s j 0 ≢ 0x20
+    edge j w =
+        cases (eqb j 0) (λ x. rw (eqb-true j 0 x) first)
+        (λ x.
+        let y = eqb-true (j + 1) (length s) (rw x at w) in
+        let z : length s - 1 ≡ j = omega arith in
+        rw z at final)
 
--- a valid identity is UTF-8
-utf8-of : (x : Scalars) → valid_text x ≡ true → is_some x ≡ true
-utf8-of (some vs) e = refl
-utf8-of none e = e
-
-pub valid-is-utf8 : (s : List ℕ) → valid_id s ≡ true → utf8 s ≡ true
-valid-is-utf8 s e = utf8-of (decode s) e
+pub ruleset id_laws = (id-start, id-end, kept_laws)

@@ -4,7 +4,7 @@ use mathlib.Core.Bool.{Bool, true, false, not, ◌&&◌, ◌||◌, true≢false}
 use mathlib.Core.Path.{◌≡◌, refl, ◌∙◌, sym}
 use mathlib.Core.List.{List}
 use native.Mathlib.Omega.{arith}
-use lib.Dec.{leb, eqb}
+use lib.Dec.{leb, ltb, eqb}
 use lib.ListN.{length, get_or}
 use borrow.Author.Tests.{ltb-true, ltb-false, leb-false, le-leb, lt-leb, eq-eqb, ne_eqb, not-true}
 use Rattle.identity.specs.declared.decode.Decoded.TheVariants.{Scalar}
@@ -13,7 +13,7 @@ use Rattle.identity.specs.Unicode.{control}
 use Rattle.identity.specs.Scan.{ascii, printable, Run, Passed, utf8_from, id_from}
 use Rattle.identity.specs.Window.{due, low_after, second, starts, fits_at, quiet_at}
 use Rattle.identity.proofs.Tests.{cases, below_or_not, failed, both, neither, or-true, within-true, within-above}
-use Rattle.identity.proofs.Steps.{every-at}
+use Rattle.identity.proofs.Steps.{every-at, passed_none}
 use Rattle.identity.proofs.Unicode.{printable-no-control}
 use Rattle.identity.proofs.Scalar.{ascii-scalar, by_two, by_three, by-four, Follows, follow, is-follow, checked-scalar, width-at}
 use Rattle.identity.proofs.Utf8 as utf8
@@ -130,9 +130,10 @@ module _ (any : Bool) (s : List ℕ) (i e : ℕ) (l : 3 ≤ i) (h : i < e) (fit 
       let k = before-end j t d in
       (k, rw n at (second_is any (get_or s j 0) (get_or s (j - 1) 0) (chosen (due_at s j) _ _ (fit j u k) d)))
 
-  by_one : ascii a ≡ true → any || printable a ≡ true → Over any s i e
-  by_one t p =
-      let x = ltb-true a 0x80 t in
+  by_one : ascii any a ≡ true → Over any s i e
+  by_one t =
+      let p = both (ltb a 0x80) (any || printable a) t in
+      let x = ltb-true a 0x80 p.0 in
       let u = quiet_is s i q in
       let u1 = u.one in
       let u2 = u.two in
@@ -142,7 +143,7 @@ module _ (any : Bool) (s : List ℕ) (i e : ℕ) (l : 3 ≤ i) (h : i < e) (fit 
         is = ascii-scalar s i x;
         inside = omega arith;
         quiet = quiet_by s (i + 1) i (i - 1) (i - 2) (omega arith) (omega arith) (omega arith) (omega arith) (omega arith) (omega arith);
-        free = λ n. printable-no-control a (rw n at p);
+        free = λ n. printable-no-control a (rw n at p.1);
       }
 
   -- the byte after the first one
@@ -221,7 +222,7 @@ module _ (any : Bool) (s : List ℕ) (i e : ℕ) (l : 3 ≤ i) (h : i < e) (fit 
   over : Over any s i e
   over =
       let t = other (due_at s i) _ (starts any a) (fit i (omega arith) h) (not-true (due_at s i) q) in
-      cases (ascii a && (any || printable a)) (λ y. let z = both (ascii a) _ y in by_one z.0 z.1)
+      cases (ascii any a) by_one
       (λ n.
       let x = within-true 0xC2 0xF4 a (rw n at t) in
       let x0 = x.0 in
@@ -268,3 +269,5 @@ module _ (any : Bool) (s : List ℕ) (i k w : ℕ) (l : 3 ≤ i) (run : Run (fit
       let x : eqb j 0 ≡ false = ne_eqb j 0 (λ y. omega arith) in
       let y : eqb (j + n) (length s) ≡ false = ne_eqb (j + n) (length s) (λ y. omega arith) in
       valid.over-scalar s j (omega arith) e (rw (f none, x, y)))
+
+pub ruleset passed_laws = (passed_none, passed-utf8, passed-id)

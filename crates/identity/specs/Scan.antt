@@ -1,42 +1,27 @@
 -- Auxiliary: what the contracts of the private functions cite, and no public contract.
-use Rattle.std.specs.Prelude.{ℕ, zero, suc, ◌+◌, ◌*◌, ◌<◌, ◌≤◌, Bool, true, false, ◌&&◌, cond, ◌≡◌, List, ltb, eqb, length, get_or, drop}
+use Rattle.std.specs.Prelude.{ℕ, zero, suc, ◌+◌, ◌≤◌, Bool, true, false, ◌&&◌, ◌||◌, cond, ◌≡◌, List, ltb, eqb, length, get_or, drop}
 use Rattle.identity.specs.Within.{within}
-use Rattle.identity.specs.declared.decode.Decoded.{Decoded}
-use Rattle.identity.specs.declared.decode.Decoded.TheVariants.{Scalar, Malformed}
 use Rattle.identity.specs.Utf8.{before, decode, utf8}
+use Rattle.identity.specs.Unicode.{control, white_space}
 use Rattle.identity.specs.Identity.{valid_text}
 use Rattle.identity.specs.Order.{compared}
 
--- How many bytes a scalar takes; 0 where there is none.
-unfoldable pub width_of : Decoded → ℕ
-width_of (Scalar v w) = w
-width_of Malformed = 0
-
-abbrev pub ascii : ℕ → Bool
-ascii b = ltb b 0x80
-
--- ASCII without controls: a scalar by itself, white space where it is a blank.
+-- ASCII without controls.
 abbrev pub printable : ℕ → Bool
 printable b = within 0x20 0x7E b
 
--- A visible ASCII character: a scalar by itself, no control and no white space.
-abbrev pub visible : ℕ → Bool
-visible b = within 0x21 0x7E b
+-- ASCII, a scalar by itself; a control only where `any` may stand.
+abbrev pub ascii : Bool → ℕ → Bool
+ascii any b = ltb b 0x80 && (any || printable b)
 
 -- The k places from o pass the test.
 unfoldable pub every : (ℕ → Bool) → ℕ → ℕ → Bool
 every test o zero = true
 every test o (suc k) = every test o k && test (o + k)
 
--- Tests of a place: the byte there is ASCII, it is printable, it is visible, two texts have the same byte there.
-abbrev pub ascii_at : List ℕ → ℕ → Bool
-ascii_at s i = ascii (get_or s i 0)
-
-abbrev pub printable_at : List ℕ → ℕ → Bool
-printable_at s i = printable (get_or s i 0)
-
-abbrev pub visible_at : List ℕ → ℕ → Bool
-visible_at s i = visible (get_or s i 0)
+-- Tests of a place: the byte there is such ASCII, two texts have the same byte there.
+abbrev pub ascii_at : Bool → List ℕ → ℕ → Bool
+ascii_at any s i = ascii any (get_or s i 0)
 
 abbrev pub same_at : List ℕ → List ℕ → ℕ → Bool
 same_at a b i = eqb (get_or a i 0) (get_or b i 0)
@@ -65,17 +50,12 @@ utf8_from s i = utf8 (drop i s)
 abbrev pub id_from : List ℕ → ℕ → Bool
 id_from s i = valid_text (cond (eqb i 0) (decode (drop i s)) (before 0x61 (decode (drop i s))))
 
+-- A scalar that no identity has at that place: a control, or white space at an edge.
+abbrev pub refused : ℕ → Bool → Bool
+refused v edge = control v || (edge && white_space v)
+
 -- The first i bytes of both texts are the same, so that the rest decides.
 pub record Tied (a b : List ℕ) (i : ℕ) : Type 0 where
+  pub inside_left : i ≤ length a
+  pub inside_right : i ≤ length b
   pub same : compared a b ≡ compared (drop i a) (drop i b)
-
--- The first k bytes of s as a number, the first of them highest.
-unfoldable pub number : List ℕ → ℕ → ℕ
-number s zero = 0
-number s (suc k) = number s k * 256 + get_or s k 0
-
--- s has k bytes or more, and n is the number of the first k.
-pub record Leading (s : List ℕ) (k n : ℕ) : Type 0 where
-  pub inside : k ≤ length s
-  pub bytes : (i : ℕ) → get_or s i 0 < 256
-  pub value : n ≡ number s k

@@ -2,7 +2,7 @@
 use Rattle.std.specs.Prelude.{ℕ, ◌-◌, Bool, not, ◌&&◌, ◌||◌, List, ltb, leb, eqb, get_or}
 use Rattle.identity.specs.Within.{within}
 use Rattle.identity.specs.Utf8.{follows}
-use Rattle.identity.specs.Scan.{ascii, printable}
+use Rattle.identity.specs.Scan.{ascii}
 
 -- A following byte is due after p, q and r, the nearest of them first.
 abbrev pub due : ℕ → ℕ → ℕ → Bool
@@ -21,7 +21,7 @@ second any b p =
 
 -- Some scalar starts with b.
 abbrev pub starts : Bool → ℕ → Bool
-starts any b = (ascii b && (any || printable b)) || within 0xC2 0xF4 b
+starts any b = ascii any b || within 0xC2 0xF4 b
 
 abbrev pub fits : Bool → ℕ → ℕ → ℕ → ℕ → Bool
 fits any b p q r = (due p q r && second any b p) || (not (due p q r) && starts any b)

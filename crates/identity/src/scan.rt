@@ -1,1 +1,221 @@
+// Whether a text is UTF-8, and whether it is a valid identity: plain ASCII at once, else by blocks and scalar by scalar.
+ghost use Rattle.std.specs.Prelude.{◌≡◌, true, false, ◌+◌, ◌-◌, ◌<◌, ◌≤◌, length};
+ghost use Rattle.identity.specs.Utf8.{utf8};
+ghost use Rattle.identity.specs.Identity.{valid_id};
+ghost use Rattle.identity.specs.Scan.{ascii, every, ascii_at, refused, Run, Passed, Stepped, utf8_from, id_from};
+ghost use Rattle.identity.specs.Window.{due, second, starts, fits, fits_at, quiet_at};
 
+use crate::decode::{Decoded, follows, unicode_control, unicode_whitespace, utf8_scalar};
+
+// ASCII; a control only where `any` may stand.
+fn ascii(any: bool, b: u8) -> bool
+    ensures { result ≡ ascii any b }
+{
+    (b < 0x80) & (any | ((0x20 <= b) & (b <= 0x7E)))
+}
+
+// Whether every byte is such: no branch among them, so that many are tested at once.
+#[tactic(auto, using(crate::proofs::Steps::block_laws))]
+fn all_ascii(any: bool, text: &[u8]) -> bool
+    ensures { result ≡ every (ascii_at any text.now) 0 (length text.now) }
+{
+    let mut all = true;
+    for b in text {
+        all = all & ascii(any, *b);
+    }
+    all
+}
+
+// Whether a following byte is due after p, q and r, the nearest of them first.
+fn due(p: u8, q: u8, r: u8) -> bool
+    ensures { result ≡ due p q r }
+{
+    (0xC0 <= p) | ((0xE0 <= q) | (0xF0 <= r))
+}
+
+// Whether some scalar has b after p; a control only where `any` may stand.
+fn second(any: bool, b: u8, p: u8) -> bool
+    ensures { result ≡ second any b p }
+{
+    let free = any | !((p == 0xC2) & (b < 0xA0));
+    let low = ((p == 0xE0) & (b < 0xA0)) | ((p == 0xF0) & (b < 0x90));
+    let high = (p == 0xF4) & (0x90 <= b);
+    follows(b) & (free & !low & !high)
+}
+
+// Whether some scalar starts with b, in the same way.
+fn starts(any: bool, b: u8) -> bool
+    ensures { result ≡ starts any b }
+{
+    ascii(any, b) | ((0xC2 <= b) & (b <= 0xF4))
+}
+
+// Whether b fits the three bytes before it. No branch, so that 16 are tested at once.
+fn fits(any: bool, b: u8, p: u8, q: u8, r: u8) -> bool
+    ensures { result ≡ fits any b p q r }
+{
+    let due = due(p, q, r);
+    (due & second(any, b, p)) | (!due & starts(any, b))
+}
+
+// Whether each of the 16 bytes from `at` fits the three before it.
+#[tactic(auto, using(crate::proofs::Steps::block_laws))]
+fn fits_block(any: bool, text: &[u8], at: usize) -> bool
+    requires after_three { 3 ≤ at }
+    requires inside { at + 16 ≤ length text.now }
+    ensures { result ≡ every (fits_at any text.now) at 16 }
+{
+    let mut all = true;
+    for k in 0..16 {
+        let i = at + k;
+        all = all & fits(any, text[i], text[i - 1], text[i - 2], text[i - 3]);
+    }
+    all
+}
+
+// How many bytes from `at` on fit the three before them, by blocks of 16, none of them the last.
+#[tactic(auto, using(crate::proofs::Steps::run_laws))]
+fn fits_blocks(any: bool, text: &[u8], at: usize) -> usize
+    requires after_three { 3 ≤ at }
+    requires inside { at < length text.now }
+    ensures { Run (fits_at any text.now) at result (length text.now - 1) }
+{
+    let rest = text.len() - at;
+    let mut k = 0;
+    while k + 16 < rest && fits_block(any, text, at + k) {
+        k += 16;
+    }
+    k
+}
+
+// Whether no following byte is due at `at`.
+fn quiet(text: &[u8], at: usize) -> bool
+    requires after_three { 3 ≤ at }
+    requires inside { at ≤ length text.now }
+    ensures { result ≡ quiet_at text.now at }
+{
+    !due(text[at - 1], text[at - 2], text[at - 3])
+}
+
+// How many of the k bytes from `at` are whole scalars: the beginning of one at the end is left off.
+#[tactic(auto, using(crate::proofs::Steps::not_there))]
+fn whole_scalars(text: &[u8], at: usize, k: usize) -> usize
+    requires after_three { 3 ≤ at }
+    requires inside { at + k ≤ length text.now }
+    requires starts { quiet_at text.now at ≡ true }
+    ensures most { result ≤ k }
+    ensures ends { quiet_at text.now (at + result) ≡ true }
+{
+    let mut w = k;
+    while !quiet(text, at + w) {
+        w -= 1;
+    }
+    w
+}
+
+// How many bytes from `at` on are scalars inside the text, by blocks, and no controls unless `any` may stand; 0 where the first block is not so.
+#[tactic(auto, using(crate::proofs::Window::passed_laws))]
+fn inner_scalars(any: bool, text: &[u8], at: usize) -> usize
+    requires { at < length text.now }
+    ensures passed_utf8 { Passed (utf8_from text.now) (length text.now) at result }
+    ensures passed_id { any ≡ false → Passed (id_from text.now) (length text.now) at result }
+{
+    if 3 <= at && 16 < text.len() - at && quiet(text, at) {
+        whole_scalars(text, at, fits_blocks(any, text, at))
+    } else {
+        0
+    }
+}
+
+// How many bytes from `at` on are whole scalars: by blocks, or one scalar; 0 where there is none.
+#[tactic(auto, using(crate::proofs::Utf8::step_laws))]
+fn utf8_step(text: &[u8], at: usize) -> usize
+    requires { at < length text.now }
+    ensures { Stepped (utf8_from text.now) (length text.now) at result }
+{
+    let many = inner_scalars(true, text, at);
+    if many != 0 {
+        return many;
+    }
+    match utf8_scalar(text, at) {
+        Decoded::Scalar(_, width) => width,
+        Decoded::Malformed => 0,
+    }
+}
+
+// Whether a text is UTF-8.
+#[tactic(auto, using(crate::proofs::Utf8::utf8_laws))]
+pub fn is_utf8(text: &[u8]) -> bool
+    ensures { result ≡ utf8 text.now }
+{
+    if all_ascii(true, text) {
+        return true;
+    }
+    let mut at = 0;
+    while at < text.len() {
+        let width = utf8_step(text, at);
+        if width == 0 {
+            return false;
+        }
+        at += width;
+    }
+    true
+}
+
+// Whether no identity has that scalar there: a control, or white space first or last.
+fn refused(value: u32, edge: bool) -> bool
+    ensures { result ≡ refused value edge }
+{
+    unicode_control(value) || (edge && unicode_whitespace(value))
+}
+
+// The same as `utf8_step` for what may stand there in an identity.
+#[tactic(auto, using(crate::proofs::Valid::step_laws))]
+fn id_step(text: &[u8], at: usize) -> usize
+    requires { at < length text.now }
+    ensures { Stepped (id_from text.now) (length text.now) at result }
+{
+    let many = inner_scalars(false, text, at);
+    if many != 0 {
+        return many;
+    }
+    let Decoded::Scalar(value, width) = utf8_scalar(text, at) else {
+        return 0;
+    };
+    if refused(value, (at == 0) | (at + width == text.len())) {
+        return 0;
+    }
+    width
+}
+
+// Whether a text is ASCII without controls and with no blank first or last, as most identities are.
+#[tactic(auto, using(crate::proofs::Valid::id_plain))]
+fn plain(text: &[u8]) -> bool
+    ensures { result ≡ true → valid_id text.now ≡ true }
+{
+    let len = text.len();
+    if len != 0 && text[0] != 0x20 && text[len - 1] != 0x20 {
+        all_ascii(false, text)
+    } else {
+        false
+    }
+}
+
+// Whether a text is a valid identity: UTF-8, not empty, no control, white space neither first nor last.
+#[tactic(auto, using(crate::proofs::Valid::id_laws))]
+pub fn valid_id(text: &[u8]) -> bool
+    ensures { result ≡ valid_id text.now }
+{
+    if plain(text) {
+        return true;
+    }
+    let mut at = 0;
+    while at < text.len() {
+        let width = id_step(text, at);
+        if width == 0 {
+            return false;
+        }
+        at += width;
+    }
+    at != 0
+}

@@ -1,0 +1,11 @@
+-- The first k bytes fit.
+use Rattle.std.proofs.Common.{◌-◌, length}
+use Rattle.identity.specs.Scan.{Run}
+use Rattle.identity.specs.Window.{fits_at}
+use Rattle.identity.proofs.scan.fits_blocks.Given as goal
+
+abbrev pub invariant-loop-k : goal.invariant-loop-k
+invariant-loop-k l = Run (fits_at l.any l.text) l.at l.k (length l.text - 1)
+
+abbrev pub decreases-loop-k : goal.decreases-loop-k
+decreases-loop-k l = l.rest - l.k
