@@ -1,11 +1,2 @@
-pub mod Tests
-pub mod Tables
 pub mod Zeros
-pub mod Records
-pub mod TableStarts
-pub mod Packed
-pub mod CleanRuns
-pub mod CheckRuns
-pub mod Places
-pub mod RowRuns
-pub mod EnclaveStarts
+pub mod Tables
