@@ -1,0 +1,84 @@
+-- What the packing rules say of the records of a pack that passes them. Assumes nothing.
+use Prim.Native.Nat.{ℕ, zero, suc, ◌+◌, ◌-◌, ◌/◌, ◌%◌, ◌<◌, ◌≤◌}
+use mathlib.Core.Bool.{Bool, true, false, true≢false}
+use mathlib.Core.Path.{◌≡◌, refl}
+use mathlib.Core.List.{List, [], ◌∷◌, ◌++◌}
+use native.Mathlib.Decide.{dec_le}
+use native.Mathlib.Omega.{arith}
+use lib.Dec.{ltb, leb, eqb}
+use lib.ListN.{length}
+use borrow.Author.Tests.{ltb-true, leb-true, eqb-true}
+use Rattle.answers.specs.declared.Refusal.{Refusal}
+use Rattle.answers.specs.declared.Outcome.TheVariants.{Passed}
+use Rattle.answers.specs.Checks.{Check, need, first, run}
+use Rattle.schema.specs.Layout.{layouts}
+use Rattle.schema.specs.Rows.{byte_of}
+use Rattle.packing.specs.declared.PackKind.{PackKind}
+use Rattle.packing.specs.declared.PackKind.TheVariants.{Enclave}
+use Rattle.packing.specs.Packing.{first_table, table_after, in_place, record_checks, packing_checks}
+use Rattle.identity.proofs.Tests.{both}
+
+-- record n after another
+pub place_first : (kind : PackKind) (p : List ℕ) (n : ℕ) → n ≡ 0 → in_place kind p n ≡ eqb (byte_of p n 0) (first_table kind)
+place_first kind p n e = rw e
+
+pub place_after : (kind : PackKind) (p : List ℕ) (n : ℕ) → (n ≡ 0 → ⊥) → in_place kind p n ≡ table_after kind (byte_of p (n - 1) 0) (byte_of p n 0)
+place_after kind p zero e = absurd (e refl)
+place_after kind p (suc n) e = let m : suc n - 1 ≡ n = omega arith in rw m
+
+pub ruleset place_laws = (place_first, place_after)
+
+-- where a list passes, each of its checks does
+passed_first : (b : Bool) (r : Refusal) (cs : List Check) → first (need b r ∷ cs) ≡ Passed → (b ≡ true) × (first cs ≡ Passed)
+unfolding first
+passed_first true r cs e = (refl, e)
+passed_first false r cs e = let z : ◌≡◌ {A = Bool} true false = cc in absurd (true≢false z)
+
+passed-append : (xs ys : List Check) → first (xs ++ ys) ≡ Passed → (first xs ≡ Passed) × (first ys ≡ Passed)
+unfolding first
+passed-append [] ys e = (refl, e)
+passed-append (need true r ∷ xs) ys e = passed-append xs ys e
+passed-append (need false r ∷ xs) ys e = let z : ◌≡◌ {A = Bool} true false = cc in absurd (true≢false z)
+
+passed-run : (f : ℕ → List Check) (i n : ℕ) → first (run f i n) ≡ Passed → (k : ℕ) → i ≤ k → k < i + n → first (f k) ≡ Passed
+unfolding run
+passed-run f i zero e k l u = absurd (omega arith)
+passed-run f i (suc n) e k l u =
+    let h = passed-append (f i) (run f (suc i) n) e in
+    elim (dec_le k i) [ yes g ↦ (let x : k ≡ i = omega arith in rw x h.0) | no g ↦ passed-run f (suc i) n h.1 k (omega arith) (omega arith) ]
+
+-- whole records, not too many, and one at least
+pub record PackLength (n : ℕ) : Type 0 where
+  pub some : 0 < n
+  pub few : n ≤ 4194304
+  pub whole : n % 64 ≡ 0
+
+module _ (kind : PackKind) (p batch house : List ℕ) (h : first (packing_checks kind p batch house) ≡ Passed) where
+  pub fits : PackLength (length p)
+  unfolding packing_checks
+  fits =
+      let a = both (ltb 0 (length p)) _ (passed_first _ _ _ h).0 in
+      let b = both (leb (length p) 4194304) _ a.1 in
+      record { some = ltb-true 0 (length p) a.0; few = leb-true (length p) 4194304 b.0; whole = eqb-true (length p % 64) 0 b.1 }
+
+  pub placed-at : (n : ℕ) → n < length p / 64 → in_place kind p n ≡ true
+  unfolding packing_checks record_checks
+  placed-at n l =
+      let rest = (passed_first _ _ _ (passed_first _ _ _ (passed_first _ _ _ h).1).1).1 in
+      (passed_first _ _ _ (passed-run (record_checks kind p batch house) 0 (length p / 64) rest n (omega arith) (omega arith))).0
+
+module _ (p batch house : List ℕ) (h : first (packing_checks Enclave p batch house) ≡ Passed) where
+  -- from record 1 on, the tables are 2 or above, and rise
+  pub rows_above : (n : ℕ) → suc n < length p / 64 → (2 ≤ byte_of p (suc n) 0) × (byte_of p n 0 ≤ byte_of p (suc n) 0)
+  rows_above n l =
+      let e = both (leb 2 (byte_of p (suc n) 0)) _ (placed-at Enclave p batch house h (suc n) l) in
+      (leb-true 2 (byte_of p (suc n) 0) e.0, leb-true (byte_of p n 0) (byte_of p (suc n) 0) (both (ltb (byte_of p (suc n) 0) (length layouts)) _ e.1).1)
+
+  pub rise : (j k : ℕ) → j ≤ k → k < length p / 64 → byte_of p j 0 ≤ byte_of p k 0
+  rise j zero l u = let x : j ≡ 0 = omega arith in rw x (omega arith)
+  rise j (suc k) l u =
+      let i = rise j k in
+      elim (dec_le j k) [
+        | yes g ↦ (let e = i g (omega arith) in let r = (rows_above k u).1 in omega arith)
+        | no g ↦ (let x : j ≡ suc k = omega arith in rw x (omega arith))
+      ]
