@@ -1,11 +1,5 @@
-pub mod Tests
-pub mod Tables
 pub mod Zeros
-pub mod Records
+pub mod Tables
 pub mod TableStarts
+pub mod Records
 pub mod Packed
-pub mod CleanRuns
-pub mod CheckRuns
-pub mod Places
-pub mod RowRuns
-pub mod EnclaveStarts

@@ -1,11 +1,11 @@
 -- What the packing rules say of the records of a pack that passes them. Assumes nothing.
-use Prim.Native.Nat.{ℕ, zero, suc, ◌+◌, ◌/◌, ◌%◌, ◌<◌, ◌≤◌}
+use Prim.Native.Nat.{ℕ, zero, suc, ◌+◌, ◌-◌, ◌/◌, ◌%◌, ◌<◌, ◌≤◌}
 use mathlib.Core.Bool.{Bool, true, false, true≢false}
 use mathlib.Core.Path.{◌≡◌, refl}
 use mathlib.Core.List.{List, [], ◌∷◌, ◌++◌}
 use native.Mathlib.Decide.{dec_le}
 use native.Mathlib.Omega.{arith}
-use lib.Dec.{ltb, leb}
+use lib.Dec.{ltb, leb, eqb}
 use lib.ListN.{length}
 use borrow.Author.Tests.{ltb-true, leb-true, eqb-true}
 use Rattle.answers.specs.declared.Refusal.{Refusal}
@@ -15,8 +15,18 @@ use Rattle.schema.specs.Layout.{layouts}
 use Rattle.schema.specs.Rows.{byte_of}
 use Rattle.packing.specs.declared.PackKind.{PackKind}
 use Rattle.packing.specs.declared.PackKind.TheVariants.{Enclave}
-use Rattle.packing.specs.Packing.{in_place, record_checks, packing_checks}
-use Rattle.packing.proofs.Tests.{both}
+use Rattle.packing.specs.Packing.{first_table, table_after, in_place, record_checks, packing_checks}
+use Rattle.identity.proofs.Tests.{both}
+
+-- record n after another
+pub place_first : (kind : PackKind) (p : List ℕ) (n : ℕ) → n ≡ 0 → in_place kind p n ≡ eqb (byte_of p n 0) (first_table kind)
+place_first kind p n e = rw e
+
+pub place_after : (kind : PackKind) (p : List ℕ) (n : ℕ) → (n ≡ 0 → ⊥) → in_place kind p n ≡ table_after kind (byte_of p (n - 1) 0) (byte_of p n 0)
+place_after kind p zero e = absurd (e refl)
+place_after kind p (suc n) e = let m : suc n - 1 ≡ n = omega arith in rw m
+
+pub ruleset place_laws = (place_first, place_after)
 
 -- where a list passes, each of its checks does
 passed_first : (b : Bool) (r : Refusal) (cs : List Check) → first (need b r ∷ cs) ≡ Passed → (b ≡ true) × (first cs ≡ Passed)

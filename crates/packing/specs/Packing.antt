@@ -1,12 +1,16 @@
 -- The packing rules in their order (document 01, "The pack" and "Packing"). Assumes nothing.
-use Rattle.std.specs.Prelude.{ℕ, zero, suc, ◌*◌, ◌/◌, ◌%◌, Bool, ◌&&◌, ◌||◌, List, [], ◌∷◌, ltb, leb, eqb, length}
+use Rattle.std.specs.Prelude.{ℕ, zero, suc, ◌*◌, ◌/◌, ◌%◌, Bool, ◌&&◌, ◌||◌, ◌≡◌, List, [], ◌∷◌, ltb, leb, eqb, length}
 use Rattle.identity.specs.declared.IdentityPlace.{IdentityPlace}
 use Rattle.identity.specs.Utf8.{utf8}
 use Rattle.identity.specs.Text.{place_inside, identity_text}
+use Rattle.answers.specs.declared.Outcome.{Outcome}
+use Rattle.answers.specs.declared.Outcome.TheVariants.{Passed, Refused}
 use Rattle.answers.specs.declared.Refusal.TheVariants.{Length, TextTooLong, TableOutOfPlace, StrayByte, IdentityOutside, NotUtf8}
 use Rattle.answers.specs.Checks.{Check, need, run}
 use Rattle.schema.specs.Layout.{layouts}
 use Rattle.schema.specs.Rows.{byte_of, bit_of, field, place}
+use Rattle.packing.specs.declared.PackAnswer.{PackAnswer}
+use Rattle.packing.specs.declared.PackAnswer.TheVariants as answer
 use Rattle.packing.specs.declared.PackKind.{PackKind}
 use Rattle.packing.specs.declared.PackKind.TheVariants.{Enclave, Federate}
 use Rattle.packing.specs.Shape.{layout_of}
@@ -41,7 +45,7 @@ in_place kind p (suc n) = table_after kind (byte_of p n 0) (byte_of p (suc n) 0)
 abbrev pub identity_at : List ℕ → ℕ → ℕ → IdentityPlace
 identity_at p n j = place (bit_of (byte_of p n 1) j) (field p n (layout_of (byte_of p n 0))) (2 * j)
 
-abbrev pub identity_checks : List ℕ → List ℕ → List ℕ → ℕ → ℕ → List Check
+unfoldable pub identity_checks : List ℕ → List ℕ → List ℕ → ℕ → ℕ → List Check
 identity_checks p batch house n j =
     need (place_inside batch house (identity_at p n j)) (IdentityOutside n)
     ∷ need (utf8 (identity_text batch house (identity_at p n j))) (NotUtf8 n)
@@ -59,3 +63,12 @@ packing_checks kind p batch house =
     ∷ need (text_fits batch) (TextTooLong 0)
     ∷ need (text_fits house) (TextTooLong 1)
     ∷ run (record_checks kind p batch house) 0 (length p / 64)
+
+-- the rules' answer as an outcome; the pack that passes is the one that was lent
+abbrev pub pack_outcome : PackAnswer → Outcome
+pack_outcome (answer.Pack pack) = Passed
+pack_outcome (answer.Refused r) = Refused r
+
+abbrev pub IsLent : List ℕ → PackAnswer → Type 0
+IsLent p (answer.Pack pack) = pack.bytes.now ≡ p
+IsLent p (answer.Refused r) = Unit {0}

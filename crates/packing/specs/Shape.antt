@@ -1,5 +1,5 @@
 -- What the packing rules ask of a table's layout: how many bytes it uses, and which bytes a presence bit governs. Assumes nothing.
-use Rattle.std.specs.Prelude.{ℕ, ◌+◌, ◌/◌, ◌%◌, Bool, false, cond, List, [], ◌∷◌, eqb, get_or}
+use Rattle.std.specs.Prelude.{ℕ, ◌+◌, Bool, false, cond, List, [], ◌∷◌, eqb, get_or}
 use Rattle.schema.specs.Layout.{Field, W, D, W-if, bytes, Layout, plain, layouts}
 use Rattle.packing.specs.declared.shape.Governed.{Governed}
 use Rattle.packing.specs.declared.shape.Shape.{Shape}
@@ -46,15 +46,3 @@ shape l =
 
 abbrev pub shape_of : ℕ → Shape
 shape_of t = shape (layout_of t)
-
--- a shape from its number: eight bytes, high byte first
-unfoldable pub unpacked : ℕ → Shape
-unpacked x =
-    record {
-      bits = x / 72057594037927936;
-      kinds = x / 281474976710656 % 256;
-      used = x / 1099511627776 % 256;
-      identities = x / 4294967296 % 256;
-      bit_0 = record { offset = x / 16777216 % 256; len = x / 65536 % 256 };
-      bit_1 = record { offset = x / 256 % 256; len = x % 256 };
-    }

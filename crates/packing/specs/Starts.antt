@@ -1,7 +1,5 @@
 -- Where each table of an enclave begins. Assumes nothing.
 use Rattle.std.specs.Prelude.{ℕ, zero, suc, ◌+◌, ◌/◌, Bool, not, ◌||◌, cond, List, [], ◌∷◌, ◌++◌, ltb, leb, length}
-use Rattle.answers.specs.declared.Outcome.{Outcome}
-use Rattle.answers.specs.declared.Outcome.TheVariants.{Passed, Refused}
 use Rattle.schema.specs.Rows.{byte_of}
 
 -- the records of a pack, at most as many as the pack's limit has
@@ -29,8 +27,3 @@ starts_below p rows (suc k) = starts_below p rows k ++ (table_start p rows k ∷
 -- the starts of tables 0 to 24, and the enclave's end
 unfoldable pub table_starts : List ℕ → ℕ → List ℕ
 table_starts p rows = starts_below p rows 26
-
--- the starts after the packing rules of an enclave's pack p: its own where it passes, else s, as they were
-abbrev pub starts_after : Outcome → List ℕ → List ℕ → List ℕ
-starts_after Passed p s = table_starts p 1
-starts_after (Refused r) p s = s

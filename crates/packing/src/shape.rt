@@ -1,18 +1,145 @@
+// What the packing rules ask of each table's layout, as data.
+ghost use Rattle.std.specs.Prelude.{◌≡◌};
+ghost use Rattle.packing.specs.Shape.{shape_of};
+
+use schema::lent::TABLES;
 
 // The bytes of a record that a presence bit governs: `len` of them from `offset`.
 #[derive(Clone, Copy)]
 pub struct Governed {
-    pub len: u8,
     pub offset: u8,
+    pub len: u8,
 }
 
-// What bits 1 and 0 of byte 1 govern, how many identities there are, how many bytes are used, and the largest byte 2 and byte 1: in the order of a shape number's bytes, the lowest first, so that to unpack one is to store it.
+// The largest byte 1 and byte 2, how many bytes are used, how many identities there are, and what bits 0 and 1 of byte 1 govern.
 #[derive(Clone, Copy)]
 pub struct Shape {
-    pub bit_1: Governed,
-    pub bit_0: Governed,
-    pub identities: u8,
-    pub used: u8,
-    pub kinds: u8,
     pub bits: u8,
+    pub kinds: u8,
+    pub used: u8,
+    pub identities: u8,
+    pub bit_0: Governed,
+    pub bit_1: Governed,
+}
+
+const NONE: Governed = Governed { offset: 0, len: 0 };
+
+// No field, and no bit, kind or identity: what follows gives the rest.
+const NO_FIELDS: Shape = Shape {
+    bits: 0,
+    kinds: 0,
+    used: 4,
+    identities: 0,
+    bit_0: NONE,
+    bit_1: NONE,
+};
+
+const FEDERATE: Shape = Shape {
+    bits: 7,
+    used: 44,
+    identities: 3,
+    ..NO_FIELDS
+};
+
+const ENCLAVE: Shape = Shape {
+    bits: 1,
+    used: 48,
+    identities: 1,
+    ..NO_FIELDS
+};
+
+const REACTORS: Shape = Shape {
+    bits: 3,
+    used: 44,
+    bit_0: Governed { offset: 32, len: 4 },
+    bit_1: Governed { offset: 36, len: 8 },
+    ..NO_FIELDS
+};
+
+const ACTIONS: Shape = Shape {
+    bits: 3,
+    kinds: 3,
+    used: 32,
+    bit_0: Governed { offset: 12, len: 4 },
+    ..NO_FIELDS
+};
+
+const PORTS: Shape = Shape {
+    used: 20,
+    ..NO_FIELDS
+};
+
+const REACTIONS: Shape = Shape {
+    bits: 3,
+    kinds: 1,
+    used: 56,
+    bit_1: Governed { offset: 52, len: 4 },
+    ..NO_FIELDS
+};
+
+const MODES: Shape = Shape {
+    used: 12,
+    ..NO_FIELDS
+};
+
+const SCOPES: Shape = Shape {
+    bits: 3,
+    used: 64,
+    bit_0: Governed { offset: 4, len: 4 },
+    bit_1: Governed { offset: 12, len: 4 },
+    ..NO_FIELDS
+};
+
+const LEVELS: Shape = Shape {
+    used: 12,
+    ..NO_FIELDS
+};
+
+const INDEXES: Shape = Shape {
+    used: 8,
+    ..NO_FIELDS
+};
+
+const STARTUPS: Shape = Shape {
+    used: 16,
+    ..NO_FIELDS
+};
+
+const LIFECYCLES: Shape = Shape {
+    used: 16,
+    ..NO_FIELDS
+};
+
+const ROUTES: Shape = Shape {
+    bits: 1,
+    kinds: 3,
+    used: 24,
+    identities: 1,
+    ..NO_FIELDS
+};
+
+const BINDINGS: Shape = Shape {
+    bits: 1,
+    kinds: 3,
+    used: 12,
+    identities: 1,
+    ..NO_FIELDS
+};
+
+// Table by table.
+static SHAPES: [Shape; TABLES] = [
+    FEDERATE, ENCLAVE, REACTORS, ACTIONS, PORTS, REACTIONS, MODES, SCOPES, LEVELS, INDEXES, INDEXES,
+    INDEXES, INDEXES, INDEXES, INDEXES, STARTUPS, LEVELS, LIFECYCLES, LIFECYCLES, STARTUPS,
+    STARTUPS, LIFECYCLES, INDEXES, ROUTES, BINDINGS,
+];
+
+// The shape of a table; past the last table no field is used.
+pub fn shape_of(table: u8) -> Shape
+    ensures { result ≡ shape_of table }
+{
+    let t = usize::from(table);
+    if t < TABLES {
+        return SHAPES[t];
+    }
+    NO_FIELDS
 }

@@ -1,13 +1,53 @@
+// A thin walker over the records of a lent pack: its functions stand over two that take the pack and a record's number.
+ghost use Rattle.std.specs.Prelude.{◌≡◌};
+ghost use Rattle.packing.specs.Records.{record_at, next_of};
 
-#[derive(Clone, Copy)]
-pub struct RecordWalker<'a> {
-    pub pack: &'a [u8],
-    pub place: usize,
-}
+use schema::lent::Pack;
 
 // The record at a place: its table number, and where its 64 bytes start.
 #[derive(Clone, Copy)]
 pub enum Record {
     At { table: u8, start: usize },
     End,
+}
+
+fn record_at(pack: Pack, place: usize) -> Record
+    ensures { result ≡ record_at pack.entry.bytes.now place }
+{
+    if place < pack.records() {
+        return Record::At {
+            table: pack.byte(place, 0),
+            start: place * 64,
+        };
+    }
+    Record::End
+}
+
+// The place after a record; the end stays the end.
+fn next_of(pack: Pack, place: usize) -> usize
+    ensures { result ≡ next_of pack.entry.bytes.now place }
+{
+    if place < pack.records() {
+        return place + 1;
+    }
+    place
+}
+
+#[derive(Clone, Copy)]
+pub struct Walker<'a> {
+    pub pack: Pack<'a>,
+    pub place: usize,
+}
+
+impl<'a> Walker<'a> {
+    // Yields the record where the walker stands, and moves it on.
+    pub fn step(&mut self) -> Record
+        ensures record { result ≡ record_at self.old.pack.bytes.now self.old.place }
+        ensures same_pack { self.new.pack ≡ self.old.pack }
+        ensures moved { self.new.place ≡ next_of self.old.pack.bytes.now self.old.place }
+    {
+        let record = record_at(self.pack, self.place);
+        self.place = next_of(self.pack, self.place);
+        record
+    }
 }

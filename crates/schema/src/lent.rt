@@ -11,10 +11,11 @@ use range::{IndexSpan, SliceRange};
 // At most so many bytes are a pack.
 pub const PACK_LIMIT: usize = 4_194_304;
 
-// A pack: records of 64 bytes, within the limit.
+// A pack: records of 64 bytes, one at least, within the limit.
 #[derive(Clone, Copy)]
 pub struct Pack<'a> {
     pub bytes: &'a [u8],
+    ghost some: { 0 < length bytes.now },
     ghost whole: { length bytes.now % 64 ≡ 0 },
     ghost limited: { length bytes.now ≤ 4194304 },
 }

@@ -1,0 +1,12 @@
+-- The search from record k finds the same.
+use Rattle.std.proofs.Common.{◌≡◌, ◌-◌, ◌≤◌}
+use Rattle.packing.specs.Starts.{records_of, first_reaching}
+use Rattle.packing.proofs.starts.first_reaching.Given as goal
+
+abbrev pub invariant-loop-k : goal.invariant-loop-k
+invariant-loop-k l =
+    let p = l.pack.bytes.now in
+    (l.k ≤ records_of p) × (first_reaching p l.t l.from (records_of p) ≡ first_reaching p l.t l.k (records_of p))
+
+abbrev pub decreases-loop-k : goal.decreases-loop-k
+decreases-loop-k l = records_of l.pack.bytes.now - l.k

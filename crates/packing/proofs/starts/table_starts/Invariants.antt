@@ -1,0 +1,6 @@
+-- The starts of the tables below t are there.
+use Rattle.packing.proofs.TableStarts.{Filled}
+use Rattle.packing.proofs.starts.table_starts.Given as goal
+
+abbrev pub invariant-loop-t : goal.invariant-loop-t
+invariant-loop-t l = Filled l.pack.bytes.now l.starts l.t l.k
