@@ -1,104 +1,94 @@
 -- The whole order of the enclave's checks, as the code goes through it, and the answer at each place where it can stop. Assumes nothing.
-use Prim.Native.Nat.{ℕ}
-use mathlib.Core.Path.{◌≡◌, refl, ◌∙◌, ap, sym}
-use mathlib.Core.List.{List, [], ◌∷◌, ◌++◌, append_assoc, append-nil}
-use native.Mathlib.Omega.{arith}
-use lib.ListN.{take, drop}
+use Rattle.std.proofs.Common.{ℕ, ◌≡◌, refl, ◌∙◌, ap, sym, List, [], ◌∷◌, ◌++◌, append_assoc}
+use Rattle.std.proofs.lemmas.List.{append-nil}
 use Rattle.answers.specs.declared.Refusal.{Refusal}
 use Rattle.answers.specs.declared.Outcome.{Outcome}
 use Rattle.answers.specs.declared.Outcome.TheVariants.{Passed, Refused}
-use Rattle.answers.specs.Checks.{Check, first, run, Decides}
-use Rattle.answers.proofs.Laws.{skip, stop}
-use Rattle.checks.specs.Image.{Image}
-use Rattle.scope_checks.specs.declared.links.Parents.{Parents}
+use Rattle.answers.specs.Checks.{Check, first, run}
+use Rattle.answers.proofs.Laws.{first_past, first_stops}
+use Rattle.checks.specs.Image.{Image, image}
+use Rattle.packing.specs.declared.PackKind.TheVariants.{Enclave}
+use Rattle.packing.specs.Packing.{packing_checks}
 use Rattle.scope_checks.specs.declared.links.Parents.TheVariants as parents
 use Rattle.scope_checks.specs.Scopes.{scope_checks}
 use Rattle.scope_checks.specs.Links.{cycle_checks, links, parents_answer}
-use Rattle.enclave.specs.Passes.{Pass, row_passes, list_passes, passes, pass_checks, checks_of, enclave_checks}
+use Rattle.enclave.specs.Passes.{Pass, head_passes, row_passes, scope_passes, reaction_list_passes, scope_list_passes, entry_passes, enclave_list_passes, passes, pass_checks, checks_of, enclave_checks}
 use Rattle.enclave.specs.declared.EnclaveAnswer.TheVariants as answer
-use Rattle.enclave.specs.Answer.{answer_numbers, answer_of, image_result, unless, image_answer}
+use Rattle.enclave.specs.declared.EnclaveAnswer.{EnclaveAnswer}
+use Rattle.answers.specs.Numbers.{numbers}
+use Rattle.enclave.specs.Answer.{answer_numbers, outcome_answer, answer_of, image_result, unless, image_answer, pack_image, enclave_answer}
 
-checks-append : (m : Image) (fs gs : List Pass) → checks_of m (fs ++ gs) ≡ checks_of m fs ++ checks_of m gs
+checks_append : (m : Image) (fs gs : List Pass) → checks_of m (fs ++ gs) ≡ checks_of m fs ++ checks_of m gs
 unfolding checks_of
-checks-append m [] gs = refl
-checks-append m (f ∷ fs) gs = rw (checks-append m fs gs) (sym (append_assoc (pass_checks m f) (checks_of m fs) (checks_of m gs)))
-
--- the last of the passes, and a pass of one item
-pub alone : {xs : List Check} {o : Outcome} → Decides xs o → Decides (xs ++ []) o
-alone {xs} d = record { is = d.is ∙ ap first (sym (append-nil xs)) }
-
--- the passes in the parts that the code has them in
-pub row-parts : (m : Image) {o : Outcome} → Decides (checks_of m (take 3 row_passes) ++ checks_of m (drop 3 row_passes)) o → Decides (checks_of m row_passes) o
-unfolding row_passes
-row-parts m d = record { is = d.is ∙ ap first (sym (checks-append m (take 3 row_passes) (drop 3 row_passes))) }
-
-lists-in-parts : (m : Image) → checks_of m list_passes ≡ checks_of m (take 6 list_passes) ++ (checks_of m (take 5 (drop 6 list_passes)) ++ (checks_of m (take 6 (drop 11 list_passes)) ++ checks_of m (drop 17 list_passes)))
-unfolding list_passes
-lists-in-parts m =
-    checks-append m (take 6 list_passes) (drop 6 list_passes)
-    ∙ ap (λ (cs : List Check). checks_of m (take 6 list_passes) ++ cs) (checks-append m (take 5 (drop 6 list_passes)) (drop 11 list_passes)
-    ∙ ap (λ (cs : List Check). checks_of m (take 5 (drop 6 list_passes)) ++ cs) (checks-append m (take 6 (drop 11 list_passes)) (drop 17 list_passes)))
-
-pub list-parts : (m : Image) {o : Outcome} → Decides (checks_of m (take 6 list_passes) ++ (checks_of m (take 5 (drop 6 list_passes)) ++ (checks_of m (take 6 (drop 11 list_passes)) ++ checks_of m (drop 17 list_passes)))) o → Decides (checks_of m list_passes) o
-list-parts m d = record { is = d.is ∙ ap first (sym (lists-in-parts m)) }
-
--- the passes before the scopes, the scopes, the parents, and the passes after them
-abbrev pub scopes_of_checks : Image → List Check
-scopes_of_checks m = run (scope_checks m) 0 (m.rows 7)
-
-abbrev pub cycles_of_checks : Image → List Check
-cycles_of_checks m = run (cycle_checks m) 0 (m.rows 7)
-
-pub whole : (m : Image) → enclave_checks m ≡ checks_of m row_passes ++ (scopes_of_checks m ++ (cycles_of_checks m ++ checks_of m list_passes))
-unfolding enclave_checks passes pass_checks checks_of
-whole m = checks-append m row_passes _
-
--- the answer of checks that are the enclave's
-refused-so : (m : Image) {cs : List Check} {o : Outcome} {r : Refusal} → enclave_checks m ≡ cs → Decides cs o → o ≡ Refused r → answer.Refused r ≡ image_result m
-unfolding image_result
-refused-so m e d t = rw (e, ← d.is, t)
-
-links-found : (o : Outcome) (n t : ℕ) → parents.Links n ≡ parents_answer o t → (o ≡ Passed) × (n ≡ t)
-links-found Passed n t e = (refl, cc)
-links-found (Refused r) n t e = let z : ◌≡◌ {A = ℕ} 0 1 = cc in absurd (omega arith)
-
-cycle-found : (o : Outcome) (r : Refusal) (t : ℕ) → parents.Refused r ≡ parents_answer o t → o ≡ Refused r
-cycle-found Passed r t e = let z : ◌≡◌ {A = ℕ} 0 1 = cc in absurd (omega arith)
-cycle-found (Refused x) r t e = cc
+checks_append m [] gs = refl
+checks_append m (f ∷ fs) gs = rw (checks_append m fs gs) (sym (append_assoc (pass_checks m f) (checks_of m fs) (checks_of m gs)))
 
 module _ (m : Image) where
-  pub rows-refused : {a : Outcome} {r : Refusal} → Decides (checks_of m row_passes) a → a ≡ Refused r → answer.Refused r ≡ image_result m
-  rows-refused d t = refused-so m (whole m) (stop _ d t) t
+  -- before the walk of the parents, the walk, and after it
+  abbrev pub tables : List Check
+  tables = checks_of m head_passes ++ (checks_of m row_passes ++ run (scope_checks m) 0 (m.rows 7))
 
-  module _ {a : Outcome} (da : Decides (checks_of m row_passes) a) (pa : a ≡ Passed) where
-    pub scopes-refused : {b : Outcome} {r : Refusal} → Decides (scopes_of_checks m) b → b ≡ Refused r → answer.Refused r ≡ image_result m
-    scopes-refused d t = refused-so m (whole m) (skip da pa (stop _ d t)) t
+  abbrev pub cycles : List Check
+  cycles = run (cycle_checks m) 0 (m.rows 7)
 
-    module _ {b : Outcome} (db : Decides (scopes_of_checks m) b) (pb : b ≡ Passed) where
-      pub cycle-refused : {x : Parents} {r : Refusal} → x ≡ parents_answer (first (cycles_of_checks m)) (links m) → x ≡ parents.Refused r → answer.Refused r ≡ image_result m
-      cycle-refused e t =
-          let f = cycle-found (first (cycles_of_checks m)) _ (links m) (sym t ∙ e) in
-          refused-so m (whole m) (skip da pa (skip db pb (stop _ (record { is = refl }) f))) f
+  abbrev pub lists : List Check
+  lists = checks_of m reaction_list_passes ++ (checks_of m scope_list_passes ++ (checks_of m entry_passes ++ checks_of m enclave_list_passes))
 
-      module _ {x : Parents} {n : ℕ} (e : x ≡ parents_answer (first (cycles_of_checks m)) (links m)) (t : x ≡ parents.Links n) where
-        found : (first (cycles_of_checks m) ≡ Passed) × (n ≡ links m)
-        found = links-found (first (cycles_of_checks m)) n (links m) (sym t ∙ e)
+  scopes-and-cycles : checks_of m scope_passes ≡ run (scope_checks m) 0 (m.rows 7) ++ cycles
+  unfolding scope_passes checks_of pass_checks
+  scopes-and-cycles = rw append-nil refl
 
-        none_left : {o : Outcome} → Decides (checks_of m list_passes) o → Decides (checks_of m row_passes ++ (scopes_of_checks m ++ (cycles_of_checks m ++ checks_of m list_passes))) o
-        none_left d = skip da pa (skip db pb (skip (record { is = refl }) found.0 d))
+  in-parts : enclave_checks m ≡ tables ++ (cycles ++ lists)
+  unfolding enclave_checks passes
+  in-parts = simp (checks_append, scopes-and-cycles, append_assoc)
 
-        pub lists-refused : {d : Outcome} {r : Refusal} → Decides (checks_of m list_passes) d → d ≡ Refused r → answer.Refused r ≡ image_result m
-        lists-refused d u = refused-so m (whole m) (none_left d) u
+  pub tables_refused : (o : Outcome) → o ≡ first tables → (o ≡ Passed → ⊥) → outcome_answer o ≡ image_result m
+  unfolding image_result
+  tables_refused Passed e n = absurd (n refl)
+  tables_refused (Refused r) e n = rw (in-parts, first_stops tables (cycles ++ lists) (sym e)) refl
 
-        pub accepted : {d : Outcome} → Decides (checks_of m list_passes) d → d ≡ Passed → answer.Accepted n ≡ image_result m
-        unfolding image_result
-        accepted d u = let h = none_left d in rw (whole m, ← h.is, u, found.1)
+  module _ (t : first tables ≡ Passed) where
+    past-tables : first (enclave_checks m) ≡ first (cycles ++ lists)
+    past-tables = rw in-parts (first_past tables (cycles ++ lists) t)
 
--- the answer's numbers
-numbers_of : (o : Outcome) (n : ℕ) → answer_numbers (answer_of o n) ≡ unless o (0 ∷ n ∷ [])
-numbers_of Passed n = refl
-numbers_of (Refused r) n = refl
+    refused-so : (o : Outcome) (n : ℕ) (r : Refusal) → parents.Refused r ≡ parents_answer o n → o ≡ Refused r
+    refused-so Passed n r e = cc
+    refused-so (Refused x) n r e = cc
 
-pub result-numbers : (m : Image) → answer_numbers (image_result m) ≡ image_answer m
-unfolding image_result image_answer
-result-numbers m = numbers_of (first (enclave_checks m)) (links m)
+    passed-so : (o : Outcome) (n k : ℕ) → parents.Links k ≡ parents_answer o n → (o ≡ Passed) × (k ≡ n)
+    passed-so Passed n k e = (refl, cc)
+    passed-so (Refused x) n k e = let h : (Passed ≡ Refused x) × (k ≡ n) = (cc, cc) in (sym h.0, h.1)
+
+    pub cycle_refused : (r : Refusal) → parents.Refused r ≡ parents_answer (first cycles) (links m) → answer.Refused r ≡ image_result m
+    unfolding image_result
+    cycle_refused r e = rw (past-tables, first_stops cycles lists (refused-so (first cycles) (links m) r e)) refl
+
+    module _ (k : ℕ) (e : parents.Links k ≡ parents_answer (first cycles) (links m)) where
+      past-cycles : first (enclave_checks m) ≡ first lists
+      past-cycles = past-tables ∙ first_past cycles lists (passed-so (first cycles) (links m) k e).0
+
+      pub lists_refused : (o : Outcome) → o ≡ first lists → (o ≡ Passed → ⊥) → outcome_answer o ≡ image_result m
+      unfolding image_result
+      lists_refused Passed l n = absurd (n refl)
+      lists_refused (Refused r) l n = rw (past-cycles, ← l) refl
+
+      pub image_accepted : first lists ≡ Passed → answer.Accepted k ≡ image_result m
+      unfolding image_result
+      image_accepted l = rw (past-cycles, l, (passed-so (first cycles) (links m) k e).1) refl
+
+numbers-of : (o : Outcome) (n : ℕ) → answer_numbers (answer_of o n) ≡ unless o (0 ∷ n ∷ [])
+numbers-of Passed n = refl
+numbers-of (Refused r) n = refl
+
+-- the answer for a pack that is packed, and for one that is not
+module _ (p batch house : List ℕ) where
+  pub packing_refused : (r : Refusal) → Refused r ≡ first (packing_checks Enclave p batch house) → numbers r ≡ enclave_answer p batch house
+  unfolding enclave_answer
+  packing_refused r e = rw (← e) refl
+
+  pub packed_answer : (a : EnclaveAnswer) → Passed ≡ first (packing_checks Enclave p batch house) → a ≡ image_result (pack_image p batch house) → answer_numbers a ≡ enclave_answer p batch house
+  unfolding enclave_answer image_answer image_result
+  packed_answer a e d = rw (← e, d) (numbers-of (first (enclave_checks (pack_image p batch house))) (links (pack_image p batch house)))
+
+pub same_image : (p q batch b house h s t : List ℕ) → q ≡ p → b ≡ batch → h ≡ house → t ≡ s → image q b h t ≡ image p batch house s
+same_image p q batch b house h s t e f g k = rw (e, f, g, k) refl

@@ -31,7 +31,7 @@ times n f = record { items = λ rows. n; checks = f }
 abbrev pub length_table : ℕ → ℕ
 length_table i = cond (ltb i 6) (i + 2) (cond (eqb i 6) 23 24)
 
-abbrev pub length_checks : Image → ℕ → List Check
+unfoldable pub length_checks : Image → ℕ → List Check
 length_checks m i = length_check m.rows (length_table i) ∷ []
 
 abbrev pub root_checks : Image → ℕ → List Check

@@ -7,8 +7,14 @@ ghost use Rattle.checks.specs.Image.{image_of};
 ghost use Rattle.enclave.specs.Answer.{answer_numbers, outcome_answer, image_result, enclave_answer};
 
 use crate::EnclaveAnswer;
-use crate::passes::{check_enclave_lists, check_entries, check_head, check_reaction_lists, check_rows, check_scope_tables};
+use crate::passes::{
+    check_enclave_lists, check_entries, check_head, check_reaction_lists, check_rows,
+    check_scope_tables,
+};
 use answers::Outcome;
+use packing::rules::check_packing;
+use packing::starts::{enclave, table_starts};
+use packing::{PackAnswer, PackKind};
 use schema::lent::Enclave;
 use scope_checks::links::{Parents, check_parents};
 use scope_checks::scopes::check_scopes;
@@ -76,4 +82,17 @@ pub fn check_image(e: Enclave) -> EnclaveAnswer
         return refused(lists);
     };
     EnclaveAnswer::Accepted { links }
+}
+
+// The answer of `EnclaveImageView::new` for an enclave pack and its two texts.
+pub fn check_enclave<'a>(pack: &'a [u8], batch: &'a [u8], house: &'a [u8]) -> EnclaveAnswer
+    ensures { answer_numbers result ≡ enclave_answer pack.now batch.now house.now }
+{
+    let packed = check_packing(PackKind::Enclave, pack, batch, house);
+    let pack = match packed {
+        PackAnswer::Pack(pack) => pack,
+        PackAnswer::Refused(r) => return EnclaveAnswer::Refused(r),
+    };
+    let starts = table_starts(pack);
+    check_image(enclave(pack, &starts, batch, house))
 }

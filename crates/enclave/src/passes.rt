@@ -8,9 +8,15 @@ ghost use Rattle.enclave.specs.Passes.{length_table, length_checks, root_checks,
 use answers::{Outcome, field, kind};
 use checks::identities::validate_id;
 use checks::refs::{check_enclave_len, check_reactor_ref};
-use list_checks::level_lists::{check_action_triggers, check_level_entries, check_lifecycle_entries, check_port_triggers, check_scope_lists, check_shutdown_reactions};
-use list_checks::list_tables::{check_action_entries, check_enabled_modes, check_mode_entries, check_port_entries, check_scope_entries, check_shutdown_actions, check_startup_entries};
-use list_checks::routes::{check_bindings, check_routes};
+use list_checks::level_lists::{
+    check_action_triggers, check_level_entries, check_lifecycle_entries, check_port_triggers,
+    check_scope_lists, check_shutdown_reactions,
+};
+use list_checks::list_tables::{
+    check_action_entries, check_enabled_modes, check_mode_entries, check_port_entries,
+    check_scope_entries, check_shutdown_actions, check_startup_entries,
+};
+use list_checks::routes::{check_binding_ids, check_routes};
 use row_checks::actions::check_actions;
 use row_checks::modes::check_modes;
 use row_checks::ports::check_ports;
@@ -18,7 +24,11 @@ use row_checks::reactions::check_reactions;
 use row_checks::reactors::check_reactors;
 use schema::index::ReactorIndex;
 use schema::lent::Enclave;
-use schema::lists::{ReactionAction, ReactionEffectPort, ReactionMode, ReactionTrigger, ReactionUsePort, ScopeDescendant, ScopeLogicalAction, ScopeResetReaction, ScopeShutdownReaction, ScopeStartupReaction, ScopeTimerStartup, StartupAction, TimerStartupAction};
+use schema::lists::{
+    ReactionAction, ReactionEffectPort, ReactionMode, ReactionTrigger, ReactionUsePort,
+    ScopeDescendant, ScopeLogicalAction, ScopeResetReaction, ScopeShutdownReaction,
+    ScopeStartupReaction, ScopeTimerStartup, StartupAction, TimerStartupAction,
+};
 use schema::rows::EnclaveImage;
 
 // The tables whose length is checked: 2 to 7, 23 and 24.
@@ -35,12 +45,19 @@ fn length_table(i: u32) -> u8
     24
 }
 
+#[tactic(auto, unfolding(crate::specs::Passes::length_checks))]
+fn check_length(e: Enclave, i: u32) -> Outcome
+    ensures { result ≡ first (length_checks (image_of e.entry) i) }
+{
+    check_enclave_len(e, length_table(i))
+}
+
 #[tactic(auto, using(answers::proofs::Loops::run_laws))]
 fn check_lengths(e: Enclave) -> Outcome
     ensures { result ≡ first (run (length_checks (image_of e.entry)) 0 8) }
 {
     for i in 0..8 {
-        let outcome = check_enclave_len(e, length_table(i));
+        let outcome = check_length(e, i);
         let Outcome::Passed = outcome else {
             return outcome;
         };
@@ -52,7 +69,14 @@ fn check_lengths(e: Enclave) -> Outcome
 fn check_root(e: Enclave) -> Outcome
     ensures { result ≡ first (run (root_checks (image_of e.entry)) 0 1) }
 {
-    check_reactor_ref(e, EnclaveImage::TABLE, 0, field::ROOT_REACTOR, ReactorIndex(0)).refused()
+    check_reactor_ref(
+        e,
+        EnclaveImage::TABLE,
+        0,
+        field::ROOT_REACTOR,
+        ReactorIndex(0),
+    )
+    .refused()
 }
 
 #[tactic(auto, unfolding(answers::specs::Checks::first, answers::specs::Checks::run))]
@@ -63,11 +87,7 @@ fn check_enclave_id(e: Enclave) -> Outcome
 }
 
 // Table lengths, root reactor, identity.
-#[tactic(
-    auto,
-    using(answers::proofs::Laws::list_laws),
-    unfolding(answers::specs::Checks::first, crate::specs::Passes::checks_of, crate::specs::Passes::pass_checks, crate::specs::Passes::head_passes)
-)]
+#[tactic(auto, using(answers::proofs::Laws::list_laws), unfolding(answers::specs::Checks::first, crate::specs::Passes::checks_of, crate::specs::Passes::pass_checks, crate::specs::Passes::head_passes))]
 pub fn check_head(e: Enclave) -> Outcome
     ensures { result ≡ first (checks_of (image_of e.entry) head_passes) }
 {
@@ -83,11 +103,7 @@ pub fn check_head(e: Enclave) -> Outcome
 }
 
 // The rows but for those of scopes.
-#[tactic(
-    auto,
-    using(answers::proofs::Laws::list_laws),
-    unfolding(answers::specs::Checks::first, crate::specs::Passes::checks_of, crate::specs::Passes::pass_checks, crate::specs::Passes::row_passes)
-)]
+#[tactic(auto, using(answers::proofs::Laws::list_laws), unfolding(answers::specs::Checks::first, crate::specs::Passes::checks_of, crate::specs::Passes::pass_checks, crate::specs::Passes::row_passes))]
 pub fn check_rows(e: Enclave) -> Outcome
     ensures { result ≡ first (checks_of (image_of e.entry) row_passes) }
 {
@@ -111,11 +127,7 @@ pub fn check_rows(e: Enclave) -> Outcome
 }
 
 // The lists of actions, ports and reactions.
-#[tactic(
-    auto,
-    using(answers::proofs::Laws::list_laws),
-    unfolding(answers::specs::Checks::first, crate::specs::Passes::checks_of, crate::specs::Passes::pass_checks, crate::specs::Passes::reaction_list_passes)
-)]
+#[tactic(auto, using(answers::proofs::Laws::list_laws), unfolding(answers::specs::Checks::first, crate::specs::Passes::checks_of, crate::specs::Passes::pass_checks, crate::specs::Passes::reaction_list_passes))]
 pub fn check_reaction_lists(e: Enclave) -> Outcome
     ensures { result ≡ first (checks_of (image_of e.entry) reaction_list_passes) }
 {
@@ -147,11 +159,7 @@ pub fn check_reaction_lists(e: Enclave) -> Outcome
 }
 
 // The lists of scopes.
-#[tactic(
-    auto,
-    using(answers::proofs::Laws::list_laws),
-    unfolding(answers::specs::Checks::first, crate::specs::Passes::checks_of, crate::specs::Passes::pass_checks, crate::specs::Passes::scope_list_passes)
-)]
+#[tactic(auto, using(answers::proofs::Laws::list_laws), unfolding(answers::specs::Checks::first, crate::specs::Passes::checks_of, crate::specs::Passes::pass_checks, crate::specs::Passes::scope_list_passes))]
 pub fn check_scope_tables(e: Enclave) -> Outcome
     ensures { result ≡ first (checks_of (image_of e.entry) scope_list_passes) }
 {
@@ -171,11 +179,7 @@ pub fn check_scope_tables(e: Enclave) -> Outcome
 }
 
 // Every entry of the tables that ranges lead to.
-#[tactic(
-    auto,
-    using(answers::proofs::Laws::list_laws),
-    unfolding(answers::specs::Checks::first, crate::specs::Passes::checks_of, crate::specs::Passes::pass_checks, crate::specs::Passes::entry_passes)
-)]
+#[tactic(auto, using(answers::proofs::Laws::list_laws), unfolding(answers::specs::Checks::first, crate::specs::Passes::checks_of, crate::specs::Passes::pass_checks, crate::specs::Passes::entry_passes))]
 pub fn check_entries(e: Enclave) -> Outcome
     ensures { result ≡ first (checks_of (image_of e.entry) entry_passes) }
 {
@@ -195,11 +199,7 @@ pub fn check_entries(e: Enclave) -> Outcome
 }
 
 // The lists of the enclave itself, routes and bindings.
-#[tactic(
-    auto,
-    using(answers::proofs::Laws::list_laws),
-    unfolding(answers::specs::Checks::first, crate::specs::Passes::checks_of, crate::specs::Passes::pass_checks, crate::specs::Passes::enclave_list_passes)
-)]
+#[tactic(auto, using(answers::proofs::Laws::list_laws), unfolding(answers::specs::Checks::first, crate::specs::Passes::checks_of, crate::specs::Passes::pass_checks, crate::specs::Passes::enclave_list_passes))]
 pub fn check_enclave_lists(e: Enclave) -> Outcome
     ensures { result ≡ first (checks_of (image_of e.entry) enclave_list_passes) }
 {
@@ -223,5 +223,5 @@ pub fn check_enclave_lists(e: Enclave) -> Outcome
     let Outcome::Passed = routes else {
         return routes;
     };
-    check_bindings(e)
+    check_binding_ids(e)
 }
