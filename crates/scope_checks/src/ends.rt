@@ -1,5 +1,5 @@
 // The six running ends of the rows of scopes, and the check of a row that moves them on.
-#![tactic(auto, using(answers::proofs::Laws::list_laws))]
+#![tactic(auto)]
 
 ghost use Rattle.std.specs.Prelude.{◌≡◌};
 ghost use Rattle.answers.specs.Checks.{first};
@@ -143,36 +143,34 @@ fn check_reaction_ranges(e: Enclave, i: u32, row: ScopeImage, ends: ScopeEnds) -
     )
 }
 
-// Row i, by value: its references, then its ranges.
+// Row i against the running ends: its references, then its ranges.
 #[tactic(auto, using(answers::proofs::Laws::list_laws), unfolding(crate::specs::Scopes::scope_row_checks))]
+fn check_row(e: Enclave, i: u32, row: ScopeImage, ends: ScopeEnds) -> Outcome
+    ensures { result ≡ first (scope_row_checks (image_of e.entry) i row ends) }
+{
+    let owner = check_scope_owner(e, i, row);
+    let Outcome::Passed = owner else {
+        return owner;
+    };
+    let members = check_member_ranges(e, i, row, ends);
+    let Outcome::Passed = members else {
+        return members;
+    };
+    check_reaction_ranges(e, i, row, ends)
+}
+
+// Row i by value, with the ends that come after it.
 fn moved_ends(e: Enclave, i: u32, row: ScopeImage, ends: ScopeEnds) -> MovedEnds
     ensures answer { result.outcome ≡ first (scope_row_checks (image_of e.entry) i row ends) }
     ensures moved { result.ends ≡ ends_after result.outcome row ends }
 {
-    let owner = check_scope_owner(e, i, row);
-    let Outcome::Passed = owner else {
-        return MovedEnds {
-            ends,
-            outcome: owner,
-        };
-    };
-    let members = check_member_ranges(e, i, row, ends);
-    let Outcome::Passed = members else {
-        return MovedEnds {
-            ends,
-            outcome: members,
-        };
-    };
-    let reactions = check_reaction_ranges(e, i, row, ends);
-    let Outcome::Passed = reactions else {
-        return MovedEnds {
-            ends,
-            outcome: reactions,
-        };
+    let outcome = check_row(e, i, row, ends);
+    let Outcome::Passed = outcome else {
+        return MovedEnds { ends, outcome };
     };
     MovedEnds {
         ends: ends_of(row),
-        outcome: Outcome::Passed,
+        outcome,
     }
 }
 
