@@ -64,10 +64,6 @@ pub below_next : (parent : ℕ → MaybeScope) (n k : ℕ) → links_below paren
 unfolding links_below
 below_next parent n k = rw add-one refl
 
-pub below_none : (parent : ℕ → MaybeScope) (n k : ℕ) → k ≡ 0 → links_below parent n k ≡ 0
-unfolding links_below
-below_none parent n k e = rw e refl
-
 -- with fewer than 2 ^ 32 scopes the sum with one scope more fits 64 bits
 pub sum_fits : (parent : ℕ → MaybeScope) (n k : ℕ) → k < n → n < 2 ^ 32 → links_below parent n k + links_of parent n k < 2 ^ 64
 sum_fits parent n k h b =
@@ -86,4 +82,4 @@ pub links_circle : (m : Image) (i : ℕ) → m.rows 7 ≤ links_of (parents m) (
 unfolding first cycle_checks
 links_circle m i h = rw (le-ltb _ _ h) refl
 
-pub ruleset below_laws = (below_none, below_next, sum_fits, links_end, links_circle)
+pub ruleset below_laws = (below_next, sum_fits, links_end, links_circle)

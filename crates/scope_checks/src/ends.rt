@@ -1,16 +1,15 @@
-// The six running ends of the rows of scopes, and the check of a row's ranges against them.
-#![tactic(auto, using(answers::proofs::Laws::list_laws))]
+// The six running ends of the rows of scopes, and the check of a row that moves them on.
+#![tactic(auto)]
 
-ghost use Rattle.std.specs.Prelude.{◌≡◌, ◌<◌};
+ghost use Rattle.std.specs.Prelude.{◌≡◌};
 ghost use Rattle.answers.specs.Checks.{first};
-ghost use Rattle.schema.specs.Tables.{tables};
 ghost use Rattle.checks.specs.Image.{image_of};
-ghost use Rattle.checks.specs.Refs.{range_checks};
-ghost use Rattle.scope_checks.specs.Ends.{ends_of, no_ends, member_range_checks, reaction_range_checks};
+ghost use Rattle.scope_checks.specs.Ends.{ends_of, ends_after, no_ends, member_range_checks, reaction_range_checks};
+ghost use Rattle.scope_checks.specs.Scopes.{scope_row_checks};
 
+use crate::owners::check_scope_owner;
 use answers::{Outcome, field};
 use checks::refs::check_enclave_range;
-use range::SliceRange;
 use schema::lent::Enclave;
 use schema::lists::{
     ScopeDescendant, ScopeLogicalAction, ScopeResetReaction, ScopeShutdownReaction,
@@ -29,6 +28,13 @@ pub struct ScopeEnds {
     pub shutdown_reactions: u64,
 }
 
+// A row's answer, and the ends after it: as they were where the row is refused.
+#[derive(Clone, Copy)]
+struct MovedEnds {
+    ends: ScopeEnds,
+    outcome: Outcome,
+}
+
 // The ends before the first row.
 pub fn no_ends() -> ScopeEnds
     ensures { result ≡ no_ends }
@@ -44,7 +50,7 @@ pub fn no_ends() -> ScopeEnds
 }
 
 // Where the ranges of a row end.
-pub fn ends_of(row: ScopeImage) -> ScopeEnds
+fn ends_of(row: ScopeImage) -> ScopeEnds
     ensures { result ≡ ends_of row }
 {
     ScopeEnds {
@@ -57,54 +63,123 @@ pub fn ends_of(row: ScopeImage) -> ScopeEnds
     }
 }
 
-// One range of row i against its table and its running end.
-fn check_range(e: Enclave, i: u32, field: u8, target: u8, range: SliceRange, end: u64) -> Outcome
-    requires { target < tables }
-    ensures { let m = image_of e.entry in result ≡ first (range_checks m.rows 7 i field target range end) }
-{
-    check_enclave_range(e, ScopeImage::TABLE, i, field, target, range, end)
-}
-
 // The ranges of scopes and actions of row i.
 #[tactic(auto, using(answers::proofs::Laws::list_laws), unfolding(crate::specs::Ends::member_range_checks))]
-pub fn check_member_ranges(e: Enclave, i: u32, row: ScopeImage, ends: ScopeEnds) -> Outcome
+fn check_member_ranges(e: Enclave, i: u32, row: ScopeImage, ends: ScopeEnds) -> Outcome
     ensures { let m = image_of e.entry in result ≡ first (member_range_checks m.rows i row ends) }
 {
-    let target = ScopeDescendant::TABLE;
-    let range = row.descendants;
-    let descendants = check_range(e, i, field::DESCENDANTS, target, range, ends.descendants);
+    let descendants = check_enclave_range(
+        e,
+        ScopeImage::TABLE,
+        i,
+        field::DESCENDANTS,
+        ScopeDescendant::TABLE,
+        row.descendants,
+        ends.descendants,
+    );
     let Outcome::Passed = descendants else {
         return descendants;
     };
-    let target = ScopeLogicalAction::TABLE;
-    let range = row.logical_actions;
-    let actions = check_range(e, i, field::LOGICAL_ACTIONS, target, range, ends.logical_actions);
+    let actions = check_enclave_range(
+        e,
+        ScopeImage::TABLE,
+        i,
+        field::LOGICAL_ACTIONS,
+        ScopeLogicalAction::TABLE,
+        row.logical_actions,
+        ends.logical_actions,
+    );
     let Outcome::Passed = actions else {
         return actions;
     };
-    let target = ScopeTimerStartup::TABLE;
-    let range = row.timer_startups;
-    check_range(e, i, field::TIMER_STARTUPS, target, range, ends.timer_startups)
+    check_enclave_range(
+        e,
+        ScopeImage::TABLE,
+        i,
+        field::TIMER_STARTUPS,
+        ScopeTimerStartup::TABLE,
+        row.timer_startups,
+        ends.timer_startups,
+    )
 }
 
 // The ranges of reactions of row i.
 #[tactic(auto, using(answers::proofs::Laws::list_laws), unfolding(crate::specs::Ends::reaction_range_checks))]
-pub fn check_reaction_ranges(e: Enclave, i: u32, row: ScopeImage, ends: ScopeEnds) -> Outcome
+fn check_reaction_ranges(e: Enclave, i: u32, row: ScopeImage, ends: ScopeEnds) -> Outcome
     ensures { let m = image_of e.entry in result ≡ first (reaction_range_checks m.rows i row ends) }
 {
-    let target = ScopeResetReaction::TABLE;
-    let range = row.reset_reactions;
-    let reset = check_range(e, i, field::RESET_REACTIONS, target, range, ends.reset_reactions);
+    let reset = check_enclave_range(
+        e,
+        ScopeImage::TABLE,
+        i,
+        field::RESET_REACTIONS,
+        ScopeResetReaction::TABLE,
+        row.reset_reactions,
+        ends.reset_reactions,
+    );
     let Outcome::Passed = reset else {
         return reset;
     };
-    let target = ScopeStartupReaction::TABLE;
-    let range = row.startup_reactions;
-    let startup = check_range(e, i, field::STARTUP_REACTIONS, target, range, ends.startup_reactions);
+    let startup = check_enclave_range(
+        e,
+        ScopeImage::TABLE,
+        i,
+        field::STARTUP_REACTIONS,
+        ScopeStartupReaction::TABLE,
+        row.startup_reactions,
+        ends.startup_reactions,
+    );
     let Outcome::Passed = startup else {
         return startup;
     };
-    let target = ScopeShutdownReaction::TABLE;
-    let range = row.shutdown_reactions;
-    check_range(e, i, field::SHUTDOWN_REACTIONS, target, range, ends.shutdown_reactions)
+    check_enclave_range(
+        e,
+        ScopeImage::TABLE,
+        i,
+        field::SHUTDOWN_REACTIONS,
+        ScopeShutdownReaction::TABLE,
+        row.shutdown_reactions,
+        ends.shutdown_reactions,
+    )
+}
+
+// Row i against the running ends: its references, then its ranges.
+#[tactic(auto, using(answers::proofs::Laws::list_laws), unfolding(crate::specs::Scopes::scope_row_checks))]
+fn check_row(e: Enclave, i: u32, row: ScopeImage, ends: ScopeEnds) -> Outcome
+    ensures { result ≡ first (scope_row_checks (image_of e.entry) i row ends) }
+{
+    let owner = check_scope_owner(e, i, row);
+    let Outcome::Passed = owner else {
+        return owner;
+    };
+    let members = check_member_ranges(e, i, row, ends);
+    let Outcome::Passed = members else {
+        return members;
+    };
+    check_reaction_ranges(e, i, row, ends)
+}
+
+// Row i by value, with the ends that come after it.
+fn moved_ends(e: Enclave, i: u32, row: ScopeImage, ends: ScopeEnds) -> MovedEnds
+    ensures answer { result.outcome ≡ first (scope_row_checks (image_of e.entry) i row ends) }
+    ensures moved { result.ends ≡ ends_after result.outcome row ends }
+{
+    let outcome = check_row(e, i, row, ends);
+    let Outcome::Passed = outcome else {
+        return MovedEnds { ends, outcome };
+    };
+    MovedEnds {
+        ends: ends_of(row),
+        outcome,
+    }
+}
+
+// Row i, with the ends moved on where they stand.
+pub fn check_scope_row(e: Enclave, i: u32, row: ScopeImage, ends: &mut ScopeEnds) -> Outcome
+    ensures answer { result ≡ first (scope_row_checks (image_of e.entry) i row ends.old) }
+    ensures moved { ends.new ≡ ends_after result row ends.old }
+{
+    let moved = moved_ends(e, i, row, *ends);
+    *ends = moved.ends;
+    moved.outcome
 }

@@ -1,7 +1,7 @@
 // The checks of the rows of scopes with their six running ends, and the walk of their parents.
 #![tactic(auto)]
 
-mod ends;
+pub mod ends;
 pub mod links;
 mod owners;
 pub mod scopes;

@@ -1,6 +1,6 @@
 // The walk of the scopes' parents: the links followed, and the cycles. Each scope's links are found once: a walk ends at the first scope whose
 // depth is known, and the depths of the scopes on its way are written after it. A depth is a scope's links + 1, or 0 where they are not known.
-#![tactic(auto, using(crate::proofs::LinksLaws::followed_laws))]
+#![tactic(auto)]
 
 ghost use Rattle.std.specs.Prelude.{◌≡◌, ◌+◌, ◌≤◌, get_or};
 ghost use Rattle.checks.specs.Image.{image_of};
@@ -38,14 +38,14 @@ fn depth_of(depths: &[u32], scope: ScopeIndex) -> u32
     0
 }
 
+// The links of a scope: parents followed until none, or until as many as there are scopes.
 #[tactic(auto, using(crate::proofs::LinksLaws::followed_laws), unfolding(crate::specs::Depths::Known))]
-// The links of scope i: parents followed until none, or until as many as there are scopes.
-fn links_of(e: Enclave, depths: &[u32], i: u32) -> u32
+fn links_of(e: Enclave, depths: &[u32], scope: ScopeIndex) -> u32
     requires { Known (image_of e) depths.now }
-    ensures { let m = image_of e.entry in result ≡ links_of (parents m) (m.rows 7) i }
+    ensures { let m = image_of e.entry in result ≡ links_of (parents m) (m.rows 7) scope.0 }
 {
     let scopes = e.rows(ScopeImage::TABLE);
-    let mut at = ScopeIndex(i);
+    let mut at = scope;
     for followed in 0..scopes {
         let depth = depth_of(depths, at);
         if depth != 0 {
@@ -59,28 +59,26 @@ fn links_of(e: Enclave, depths: &[u32], i: u32) -> u32
     scopes
 }
 
-// Writes the depth of scope i and those of the scopes above it, up to the first that is known.
+// Writes the depth of a scope and those of the scopes above it, up to the first that is known.
 #[tactic(auto, using(crate::proofs::LinksLaws::followed_laws, crate::proofs::DepthLaws::known_set))]
-fn settle(e: Enclave, depths: &mut [u32], i: u32, depth: u32)
+fn settle(e: Enclave, depths: &mut [u32], mut scope: ScopeIndex, mut depth: u32)
     requires known { Known (image_of e) depths.old }
-    requires links { let m = image_of e in depth ≡ links_of (parents m) (m.rows 7) i + 1 }
+    requires links { let m = image_of e in depth ≡ links_of (parents m) (m.rows 7) scope.0 + 1 }
     requires ends { let m = image_of e in depth ≤ m.rows 7 }
     ensures { Known (image_of e.entry) depths.new }
 {
-    let mut at = i;
-    let mut depth = depth;
-    while (at as usize) < depths.len() && depths[at as usize] == 0 {
-        depths[at as usize] = depth;
-        let MaybeScope::Scope(parent) = ScopeImage::row(e, ScopeIndex(at)).parent else {
+    while (scope.0 as usize) < depths.len() && depths[scope.0 as usize] == 0 {
+        depths[scope.0 as usize] = depth;
+        let MaybeScope::Scope(parent) = ScopeImage::row(e, scope).parent else {
             return;
         };
-        at = parent.0;
+        scope = parent;
         depth -= 1;
     }
 }
 
-// The parents of every scope, with room for the depths of the first ones.
-#[tactic(auto, using(answers::proofs::Loops::run_laws, crate::proofs::LinksLaws::below_laws))]
+// The parents of every scope. Scopes past the depths' array are walked to the end each time.
+#[tactic(auto, using(answers::proofs::Loops::run_laws, crate::proofs::LinksLaws::below_laws), unfolding(crate::specs::Links::links_below))]
 fn follow_parents(e: Enclave, depths: &mut [u32]) -> Parents
     requires { Known (image_of e) depths.old }
     ensures { result ≡ all_parents (image_of e.entry) }
@@ -88,17 +86,17 @@ fn follow_parents(e: Enclave, depths: &mut [u32]) -> Parents
     let scopes = e.rows(ScopeImage::TABLE);
     let mut links: u64 = 0;
     for i in 0..scopes {
-        let found = links_of(e, depths, i);
-        if found >= scopes {
+        let followed = links_of(e, depths, ScopeIndex(i));
+        if followed >= scopes {
             return Parents::Refused(Refusal::ScopeParentCycle { scope: i });
         }
-        settle(e, depths, i, found + 1);
-        links += found as u64;
+        settle(e, depths, ScopeIndex(i), followed + 1);
+        links += followed as u64;
     }
     Parents::Links(links)
 }
 
-// The array stays in this function's own frame: who needs less room does not pay for it.
+// With room for N depths. The array is in this function's frame, and in no caller's: smaller images do not pay for it.
 #[tactic(auto, using(crate::proofs::DepthLaws::known_none))]
 #[inline(never)]
 fn follow_with<const N: usize>(e: Enclave) -> Parents
@@ -108,8 +106,7 @@ fn follow_with<const N: usize>(e: Enclave) -> Parents
     follow_parents(e, &mut [0u32; N])
 }
 
-// The parents of every scope.
-#[tactic(auto, using(crate::proofs::DepthLaws::known_none))]
+// The parents of every scope: the links followed, or the first scope whose parents do not end.
 pub fn check_parents(e: Enclave) -> Parents
     ensures { let m = image_of e.entry in result ≡ parents_answer (first (run (cycle_checks m) 0 (m.rows 7))) (links m) }
 {

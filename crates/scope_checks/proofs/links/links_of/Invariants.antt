@@ -7,4 +7,4 @@ abbrev pub invariant-loop-followed : goal.invariant-loop-followed
 invariant-loop-followed l =
     let m = image_of l.e in
     let n = m.rows 7 in
-    links_of (parents m) n l.i ≡ l.followed + followed (parents m) (n - l.followed) (parents m l.at.0)
+    links_of (parents m) n l.fn.scope.0 ≡ l.followed + followed (parents m) (n - l.followed) (parents m l.at.0)

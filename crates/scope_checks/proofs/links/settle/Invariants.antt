@@ -4,14 +4,14 @@ use Rattle.scope_checks.specs.Links.{links_of, parents}
 use Rattle.scope_checks.specs.Depths.{Known}
 use Rattle.scope_checks.proofs.links.settle.Given as goal
 
-abbrev pub invariant-loop-at : goal.invariant-loop-at
-invariant-loop-at l =
+abbrev pub invariant-loop-scope : goal.invariant-loop-scope
+invariant-loop-scope l =
     let m = image_of l.e in
     record {
       known : Known m l.depths;
-      links : l.depth ≡ links_of (parents m) (m.rows 7) l.at + 1;
+      links : l.depth ≡ links_of (parents m) (m.rows 7) l.scope.0 + 1;
       ends : l.depth ≤ m.rows 7;
     }
 
-abbrev pub decreases-loop-at : goal.decreases-loop-at
-decreases-loop-at l = l.depth
+abbrev pub decreases-loop-scope : goal.decreases-loop-scope
+decreases-loop-scope l = l.depth
