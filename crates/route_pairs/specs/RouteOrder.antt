@@ -9,7 +9,7 @@ use Rattle.answers.specs.Checks.{Check, first}
 use Rattle.schema.specs.declared.rows.RouteImage.{RouteImage}
 use Rattle.schema.specs.Rows.{route_at}
 use Rattle.packing.specs.Starts.{records_of}
-use Rattle.list_checks.specs.Routes.{direction_number}
+use Rattle.schema.specs.Records.{direction_number}
 use Rattle.federate.specs.declared.route_pairs.Half.TheVariants.{OtherDomain, OtherDelay}
 use Rattle.federate.specs.Records.{is_of, count_below}
 use Rattle.federate.specs.RoutePairs.{is_half}

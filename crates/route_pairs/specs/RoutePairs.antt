@@ -11,7 +11,7 @@ use Rattle.schema.specs.declared.rows.RouteImage.{RouteImage}
 use Rattle.schema.specs.Rows.{route_at}
 use Rattle.packing.specs.Starts.{records_of}
 use Rattle.checks.specs.Identities.{is_equal}
-use Rattle.list_checks.specs.Routes.{direction_number}
+use Rattle.schema.specs.Records.{direction_number}
 use Rattle.federate.specs.declared.route_pairs.Half.{Half}
 use Rattle.federate.specs.declared.route_pairs.Half.TheVariants.{Inbound, Outbound, OtherDomain, OtherDelay}
 use Rattle.federate.specs.Records.{is_of, count_below}
