@@ -1,4 +1,4 @@
-// A thin walker over the records of a lent pack: its functions stand over two that take the pack and a record's number.
+// A thin walker over the records of a lent pack. Under it lie two functions of the pack and a number.
 ghost use Rattle.std.specs.Prelude.{◌≡◌};
 ghost use Rattle.packing.specs.Records.{record_at, next_of};
 
