@@ -1,5 +1,5 @@
 pub mod Zeros
 pub mod Tables
 pub mod TableStarts
-pub mod Records
 pub mod Packed
+pub mod TableRows

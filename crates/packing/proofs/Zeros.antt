@@ -1,6 +1,6 @@
 -- Bytes that are zero, by their number and by parts. Assumes nothing.
 use Prim.Native.Nat.{ℕ, zero, suc, ◌+◌, ◌*◌, ◌-◌, ◌≤◌}
-use mathlib.Core.Bool.{Bool, true, false, ◌&&◌, and-true, and_assoc}
+use mathlib.Core.Bool.{true, false, ◌&&◌, and-true, and_assoc}
 use mathlib.Core.Path.{◌≡◌, refl, ◌∙◌, sym}
 use mathlib.Core.List.{List}
 use native.Mathlib.Nat.{add-zero, add-suc}

@@ -3,3 +3,4 @@ pub mod Records
 pub mod Clean
 pub mod Packing
 pub mod Starts
+pub mod TableRows

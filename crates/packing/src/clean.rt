@@ -1,7 +1,6 @@
 // A record without stray bytes, bits or kinds, whose absent fields are zero (refusal 4).
-ghost use Rattle.std.specs.Prelude.{◌≡◌, true, not, ◌&&◌, ◌||◌, cond, ◌+◌, ◌*◌, ◌-◌, ◌/◌, ◌%◌, ◌<◌, ◌≤◌, length, ltb, leb, eqb};
+ghost use Rattle.std.specs.Prelude.{◌≡◌, ◌&&◌, ◌+◌, ◌*◌, ◌-◌, ◌/◌, ◌%◌, ◌<◌, ◌≤◌, length, leb, eqb};
 ghost use Rattle.packing.specs.Clean.{zeros, kind_clean, clean};
-ghost use Rattle.schema.specs.Rows.{byte_of, bit_of};
 
 use crate::shape::{Governed, Shape, shape_of};
 use schema::lent::{Pack, bit};

@@ -124,18 +124,16 @@ fn check_record(
 }
 
 // The checks of all records, as the walker yields them.
-#[tactic(auto, using(answers::proofs::Loops::run_laws, crate::proofs::Records::record_laws))]
+#[tactic(auto, using(answers::proofs::Loops::run_laws))]
 fn check_records(kind: PackKind, pack: Pack, batch: &[u8], house: &[u8]) -> Outcome
     ensures { let p = pack.entry.bytes.now in result ≡ first (run (record_checks kind p batch.now house.now) 0 (length p / 64)) }
 {
     let mut walker = Walker { pack, place: 0 };
     loop {
-        let n = walker.place;
-        let record = walker.step();
-        let Record::At { table, .. } = record else {
+        let Record::At { table, number } = walker.step() else {
             return Outcome::Passed;
         };
-        let outcome = check_record(kind, pack, batch, house, n, table);
+        let outcome = check_record(kind, pack, batch, house, number, table);
         let Outcome::Passed = outcome else {
             return outcome;
         };

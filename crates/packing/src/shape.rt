@@ -24,7 +24,7 @@ pub struct Shape {
 
 const NONE: Governed = Governed { offset: 0, len: 0 };
 
-// No field, and no bit, kind or identity: what follows gives the rest.
+// A record of its table number alone.
 const NO_FIELDS: Shape = Shape {
     bits: 0,
     kinds: 0,
@@ -126,11 +126,11 @@ const BINDINGS: Shape = Shape {
     ..NO_FIELDS
 };
 
-// Table by table.
+// Table by table, from 0 on.
 static SHAPES: [Shape; TABLES] = [
-    FEDERATE, ENCLAVE, REACTORS, ACTIONS, PORTS, REACTIONS, MODES, SCOPES, LEVELS, INDEXES, INDEXES,
-    INDEXES, INDEXES, INDEXES, INDEXES, STARTUPS, LEVELS, LIFECYCLES, LIFECYCLES, STARTUPS,
-    STARTUPS, LIFECYCLES, INDEXES, ROUTES, BINDINGS,
+    FEDERATE, ENCLAVE, REACTORS, ACTIONS, PORTS, REACTIONS, MODES, SCOPES, LEVELS, INDEXES,
+    INDEXES, INDEXES, INDEXES, INDEXES, INDEXES, STARTUPS, LEVELS, LIFECYCLES, LIFECYCLES,
+    STARTUPS, STARTUPS, LIFECYCLES, INDEXES, ROUTES, BINDINGS,
 ];
 
 // The shape of a table; past the last table no field is used.

@@ -1,13 +1,13 @@
-// A thin walker over the records of a lent pack: its functions stand over two that take the pack and a record's number.
+// A thin walker over the records of a lent pack. Under it lie two functions of the pack and a number.
 ghost use Rattle.std.specs.Prelude.{◌≡◌};
 ghost use Rattle.packing.specs.Records.{record_at, next_of};
 
 use schema::lent::Pack;
 
-// The record at a place: its table number, and where its 64 bytes start.
+// The record at a place: its table number, and its own number.
 #[derive(Clone, Copy)]
 pub enum Record {
-    At { table: u8, start: usize },
+    At { table: u8, number: usize },
     End,
 }
 
@@ -17,7 +17,7 @@ fn record_at(pack: Pack, place: usize) -> Record
     if place < pack.records() {
         return Record::At {
             table: pack.byte(place, 0),
-            start: place * 64,
+            number: place,
         };
     }
     Record::End

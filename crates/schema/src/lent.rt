@@ -41,7 +41,7 @@ pub fn bit(b: u8, k: u32) -> bool
     requires { k < 8 }
     ensures { result ≡ bit_of b k }
 {
-    b / 2u8.pow(k) % 2 == 1
+    (b >> k) % 2 == 1
 }
 
 impl<'a> Pack<'a> {

@@ -1,5 +1,5 @@
 -- The shapes, table by table, are those of the layouts.
-use Rattle.std.proofs.Common.{◌≡◌, ◌∙◌, sym, ap, ◌<◌, ◌≤◌, length, get_or, map, arith, [], ◌∷◌}
+use Rattle.std.proofs.Common.{◌∙◌, sym, ap, ◌<◌, ◌≤◌, length, arith, []}
 use Rattle.std.proofs.Math.ListN.{get_or-eq_default}
 use Rattle.std.proofs.lemmas.List.{get_or-map}
 use Rattle.schema.specs.Layout.{plain, layouts}

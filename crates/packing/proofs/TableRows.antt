@@ -1,0 +1,83 @@
+-- In an enclave's pack that passes the packing rules, the rows of a table are the records of that table. Assumes nothing.
+use Prim.Native.Nat.{ℕ, zero, suc, ◌+◌, ◌/◌, ◌<◌, ◌≤◌}
+use mathlib.Core.Bool.{true, false}
+use mathlib.Core.Path.{◌≡◌, sym}
+use mathlib.Core.List.{List}
+use native.Mathlib.Decide.{dec_le}
+use native.Mathlib.Omega.{arith}
+use lib.ListN.{length}
+use borrow.Author.Tests.{leb-true, lt-ltb, le-ltb}
+use Rattle.identity.proofs.Tests.{cases}
+use Rattle.answers.specs.declared.Outcome.TheVariants.{Passed}
+use Rattle.answers.specs.Checks.{first}
+use Rattle.schema.specs.Rows.{byte_of}
+use Rattle.schema.specs.Tables.{start_of}
+use Rattle.packing.specs.declared.PackKind.TheVariants.{Enclave}
+use Rattle.packing.specs.Packing.{packing_checks}
+use Rattle.packing.specs.Starts.{records_of, reaches, first_reaching, table_starts}
+use Rattle.packing.specs.TableRows.{IsRow, RowsByByte}
+use Rattle.packing.proofs.TableStarts.{not-reached, all_records, starts-at, starts_from, starts-within, some_record}
+use Rattle.packing.proofs.Packed.{fits, rows_above, rise}
+
+module _ (p : List ℕ) (t : ℕ) where
+  -- no record before the first one reaches table t; that one does, or is past those looked at
+  before_first : (f a k : ℕ) → a ≤ k → k < first_reaching p t a f → reaches p t k ≡ false
+  unfolding first_reaching
+  before_first zero a k l u = absurd (omega arith)
+  before_first (suc f) a k l u =
+      cases (reaches p t a)
+      (λ r. let v = rw r at u in absurd (omega arith))
+      (λ r. let v = rw r at u in elim (dec_le k a) [ yes g ↦ (let x : k ≡ a = omega arith in rw x r) | no g ↦ before_first f (a + 1) k (omega arith) v ])
+
+  at_first : (f a : ℕ) → first_reaching p t a f < a + f → reaches p t (first_reaching p t a f) ≡ true
+  unfolding first_reaching
+  at_first zero a u = absurd (omega arith)
+  at_first (suc f) a u = cases (reaches p t a) (λ r. rw r r) (λ r. let v = rw r at u in rw r (at_first f (a + 1) (omega arith)))
+
+module _ (p batch house : List ℕ) (h : first (packing_checks Enclave p batch house) ≡ Passed) where
+  abbrev start : ℕ → ℕ
+  start t = start_of (table_starts p 1) t
+
+  all : records_of p ≡ length p / 64
+  all = all_records p (fits Enclave p batch house h).few
+
+  some : 1 ≤ records_of p
+  some = let f = fits Enclave p batch house h in some_record p f.some f.whole
+
+  row_table : (n : ℕ) → 1 ≤ n → n < length p / 64 → 2 ≤ byte_of p n 0
+  row_table zero l u = absurd (omega arith)
+  row_table (suc n) l u = (rows_above p batch house h n u).0
+
+  -- a record from table t's start on is of table t or a later one; one before that start is not
+  from_start : (t n : ℕ) → t < 26 → start t ≤ n → n < length p / 64 → t ≤ byte_of p n 0
+  from_start t n k l u =
+      let r = all in
+      let e = starts-at p 1 t k in
+      let f = starts_from p 1 t k in
+      let low = row_table (start t) f (omega arith) in
+      let a = at_first p t (records_of p) 1 (rw (sym e) (omega arith)) in
+      let b = rise p batch house h (start t) n l u in
+      let g = leb-true t (byte_of p (start t) 0) (rw (lt-ltb (start t) (records_of p) (omega arith), le-ltb (byte_of p (start t) 0) 2 low) at (rw (sym e) at a)) in
+      omega arith
+
+  before_start : (t n : ℕ) → t < 26 → 1 ≤ n → n < start t → byte_of p n 0 < t
+  before_start t n k l u = (not-reached p t n (before_first p t (records_of p) 1 n l (rw (starts-at p 1 t k) at u))).1
+
+  row_is : (t n : ℕ) → t < 25 → IsRow p t n → (1 ≤ n) × (n < length p / 64) × (byte_of p n 0 ≡ t)
+  row_is t n k r =
+      let e = all in
+      let f = starts_from p 1 t (omega arith) in
+      let w = starts-within p 1 (t + 1) (omega arith) some in
+      let l : (1 ≤ n) × (n < length p / 64) = (omega (arith, r.0), omega (arith, r.1)) in
+      let a = from_start t n (omega arith) r.0 l.1 in
+      let b = before_start (t + 1) n (omega arith) l.0 r.1 in
+      (l.0, l.1, omega arith)
+
+  record_is : (t n : ℕ) → t < 25 → (1 ≤ n) × (n < length p / 64) × (byte_of p n 0 ≡ t) → IsRow p t n
+  record_is t n k (l, u, e) = (
+    elim (dec_le (start t) n) [ yes y ↦ y | no y ↦ absurd (let b = before_start t n (omega arith) l (omega arith) in omega arith) ],
+    elim (dec_le (start (t + 1)) n) [ yes y ↦ absurd (let b = from_start (t + 1) n (omega arith) y u in omega arith) | no y ↦ omega arith ],
+  )
+
+  pub rows_by_byte : RowsByByte p
+  rows_by_byte t n k = (row_is t n k, record_is t n k)
