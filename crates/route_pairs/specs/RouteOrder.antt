@@ -1,9 +1,71 @@
 -- Rows of routes in the order of their boundaries. Only the inner functions of the sort and of the scan say what they do by these. Assumes nothing.
-use Rattle.std.specs.Prelude.{ℕ, List}
+use Rattle.std.specs.Prelude.{ℕ, zero, suc, ◌+◌, ◌<◌, ◌≤◌, Bool, true, false, not, ◌&&◌, ◌||◌, cond, ◌≡◌, List, [], ◌∷◌, ◌++◌, eqb, leb, ltb, length, slice_index}
+use Rattle.std.specs.Ordering.{nat_cmp}
+use Rattle.std.specs.declared.cmp.Ordering.{Ordering}
+use Rattle.std.specs.declared.cmp.Ordering.TheVariants as order
 use Rattle.identity.specs.declared.IdentityPlace.{IdentityPlace}
+use Rattle.identity.specs.declared.ByteOrder.{ByteOrder}
+use Rattle.identity.specs.declared.ByteOrder.TheVariants.{Less, Equal, Greater}
 use Rattle.identity.specs.Text.{identity_text}
+use Rattle.identity.specs.Order.{compared}
+use Rattle.answers.specs.declared.Outcome.{Outcome}
+use Rattle.answers.specs.declared.Outcome.TheVariants.{Passed}
+use Rattle.answers.specs.Checks.{Check, first}
+use Rattle.schema.specs.declared.rows.RouteImage.{RouteImage}
+use Rattle.schema.specs.Rows.{route_at}
+use Rattle.schema.specs.Records.{records_of, is_of, direction_number}
+use Rattle.checks.specs.Identities.{is_equal}
 use Rattle.route_pairs.specs.declared.Routes.{Routes}
+use Rattle.route_pairs.specs.declared.Half.TheVariants.{OtherDomain, OtherDelay}
+use Rattle.route_pairs.specs.RoutePairs.{is_half}
 
--- the text that an identity names
+-- the text that an identity names, and the text of record n's boundary
 abbrev pub text_of : Routes → IdentityPlace → List ℕ
 text_of r = identity_text r.batch.now r.house.now
+
+abbrev pub boundary_at : (IdentityPlace → List ℕ) → List ℕ → ℕ → List ℕ
+boundary_at text p n = text (route_at p n).boundary
+
+-- the records below n that are routes
+unfoldable pub routes_below : List ℕ → ℕ → List ℕ
+routes_below p zero = []
+routes_below p (suc n) = routes_below p n ++ cond (is_of p 23 n) (n ∷ []) []
+
+abbrev pub routes_of : List ℕ → List ℕ
+routes_of p = routes_below p (records_of p)
+
+-- o decides where the texts are the same
+abbrev pub then : ByteOrder → Ordering → Ordering
+then Less o = order.Less
+then Equal o = o
+then Greater o = order.Greater
+
+-- rows by their texts, then by their numbers
+unfoldable pub row_order : (ℕ → List ℕ) → ℕ → ℕ → Ordering
+row_order key a b = then (compared (key a) (key b)) (nat_cmp a b)
+
+-- two routes of one boundary that are its two halves: one in and one out, of one domain and one delay
+abbrev pub are_halves : RouteImage → RouteImage → Bool
+are_halves a b = not (eqb (direction_number a.direction) (direction_number b.direction)) && (not (is_half OtherDomain a b) && not (is_half OtherDelay a b))
+
+-- the rows of the pack p in some order, as its texts say
+module _ (text : IdentityPlace → List ℕ) (p rows : List ℕ) where
+  -- no row at place j is of the boundary of the row at place k
+  abbrev pub parted : ℕ → ℕ → Bool
+  parted k j =
+      leb (length rows) j
+      || not (is_equal (compared (boundary_at text p (slice_index rows k)) (boundary_at text p (slice_index rows j))))
+
+  -- the row at place k is the last of its boundary, or the other half follows it and no third
+  unfoldable pub fits : ℕ → Bool
+  fits k = parted k (k + 1) || (are_halves (route_at p (slice_index rows k)) (route_at p (slice_index rows (k + 1))) && parted k (k + 2))
+
+  -- of the first k places, those with a row below `least` fit; not all of that row do, where it is a record
+  pub record Scanned (k least : ℕ) : Type 0 where
+    pub within : least ≤ records_of p
+    pub passed : (j : ℕ) → j < k → slice_index rows j < least → fits j ≡ true
+    pub named : least < records_of p → ((j : ℕ) → j < k → slice_index rows j ≡ least → fits j ≡ true) → ⊥
+
+-- the answer of the i-th of n lists of checks; none is at fault past them
+abbrev pub answer_at : (ℕ → List Check) → ℕ → ℕ → Outcome
+answer_at f n i = cond (ltb i n) (first (f i)) Passed

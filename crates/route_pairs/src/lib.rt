@@ -1,6 +1,8 @@
 // The routes of a federate, each against all of its boundary.
 #![tactic(auto)]
 
+mod faults;
+
 ghost use Rattle.std.specs.Prelude.{◌≡◌, ◌/◌, ◌<◌, length};
 ghost use Rattle.identity.specs.Text.{identity_text};
 ghost use Rattle.identity.specs.Order.{compared};
