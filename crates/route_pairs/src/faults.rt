@@ -141,11 +141,15 @@ impl<'a> Routes<'a> {
         self.first_fault_in(&mut rows[..routes])
     }
 
-    #[tactic(auto, using(crate::proofs::Rows::rows_laws))]
+    // The first record at fault; the number of records where none is.
+    #[tactic(auto, using(crate::proofs::Rows::count_few, crate::proofs::FirstFault::no_routes))]
     pub fn first_fault(self) -> usize
         ensures { let p = self.entry.pack.bytes.now in let f = route_record_checks (text_of self.entry) p in first (run f 0 (records_of p)) ≡ answer_at f (records_of p) result }
     {
         let routes = self.count();
+        if routes == 0 {
+            return self.pack.records();
+        }
         if routes <= SOME_ROUTES {
             return self.first_fault_within::<SOME_ROUTES>(routes);
         }

@@ -130,3 +130,15 @@ impl<'a> Routes<'a> {
         self.check_pair(RouteImage::at(self.pack, n))
     }
 }
+
+// Every route's checks, in the order of the records: only the first at fault is compared with all.
+pub fn validate_federate_route_pairs(pack: Pack, batch: &[u8], house: &[u8]) -> Outcome
+    ensures { let p = pack.entry.bytes.now in result ≡ first (run (route_record_checks (identity_text batch.now house.now) p) 0 (records_of p)) }
+{
+    let routes = Routes { pack, batch, house };
+    let n = routes.first_fault();
+    if n < pack.records() {
+        return routes.check_record(n);
+    }
+    Outcome::Passed
+}
