@@ -1,5 +1,5 @@
 -- Counts of the numbers below n that pass a test. Assumes nothing.
-use Rattle.std.proofs.Common.{ℕ, zero, suc, ◌+◌, ◌<◌, ◌≤◌, Bool, true, false, cond, ◌≡◌, refl, sym, add-one, arith}
+use Rattle.std.proofs.Common.{ℕ, zero, suc, ◌+◌, ◌<◌, ◌≤◌, Bool, true, false, cond, ◌≡◌, refl, add-one, arith}
 use Rattle.schema.specs.Records.{count_below}
 use Rattle.route_pairs.proofs.Tests.{cases, same_or}
 

@@ -1,5 +1,5 @@
 -- Of rows that are sorted and scanned, the smallest that does not fit is the first record at fault. Assumes nothing.
-use Rattle.std.proofs.Common.{ℕ, zero, suc, ◌+◌, ◌-◌, ◌<◌, ◌≤◌, ◌≡◌, Bool, true, false, not, ◌||◌, ◌&&◌, leb, ltb, List, [], ◌∷◌, length, get_or, refl, sym, ap, ◌∙◌, add-one, arith, IsPermutation}
+use Rattle.std.proofs.Common.{ℕ, zero, suc, ◌+◌, ◌-◌, ◌<◌, ◌≤◌, ◌≡◌, true, leb, List, [], ◌∷◌, length, get_or, refl, sym, ap, ◌∙◌, add-one, arith, IsPermutation}
 use Rattle.std.specs.List.Sorted.{IsSorted}
 use Rattle.std.proofs.lemmas.List.Sorted.{IsPermutation-refl}
 use borrow.Author.Tests.{leb-true, leb-false, lt-ltb, le-ltb}

@@ -1,5 +1,5 @@
 -- The scan of the sorted rows, a place at a time. Assumes nothing.
-use Rattle.std.proofs.Common.{ℕ, ◌+◌, ◌<◌, ◌≤◌, ◌≡◌, Bool, true, false, List, get_or, ap, refl, arith, true≢false, sym, ◌∙◌}
+use Rattle.std.proofs.Common.{ℕ, ◌+◌, ◌<◌, ◌≤◌, ◌≡◌, true, false, List, get_or, ap, refl, arith, true≢false, sym, ◌∙◌}
 use Rattle.identity.specs.declared.IdentityPlace.{IdentityPlace}
 use Rattle.schema.specs.Records.{records_of}
 use Rattle.route_pairs.specs.RouteOrder.{fits, Scanned}
