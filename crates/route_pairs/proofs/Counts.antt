@@ -1,7 +1,8 @@
 -- Counts of the numbers below n that pass a test. Assumes nothing.
 use Rattle.std.proofs.Common.{ℕ, zero, suc, ◌+◌, ◌<◌, ◌≤◌, Bool, true, false, cond, ◌≡◌, refl, add-one, arith}
 use Rattle.schema.specs.Records.{count_below}
-use Rattle.route_pairs.proofs.Tests.{cases, same_or}
+use Rattle.identity.proofs.Tests.{cases}
+use Rattle.route_pairs.proofs.Tests.{same_or}
 
 module _ (f : ℕ → Bool) where
   pub below_none : count_below f 0 ≡ 0

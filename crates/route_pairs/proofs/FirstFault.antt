@@ -8,15 +8,16 @@ use Rattle.identity.specs.declared.ByteOrder.TheVariants.{Equal}
 use Rattle.identity.specs.Order.{compared}
 use Rattle.identity.proofs.Order.{compared_same}
 use Rattle.answers.specs.declared.Outcome.TheVariants.{Passed}
-use Rattle.answers.specs.Checks.{Check, first, run}
+use Rattle.answers.specs.Checks.{Check, first}
 use Rattle.answers.proofs.Laws.{first_past, first_stays}
 use Rattle.answers.proofs.Loops.{Remaining, run_next, run_over}
 use Rattle.schema.specs.Rows.{route_at}
 use Rattle.schema.specs.Records.{records_of, is_of}
 use Rattle.checks.specs.Identities.{is_equal}
 use Rattle.route_pairs.specs.RoutePairs.{route_record_checks}
-use Rattle.route_pairs.specs.RouteOrder.{boundary_at, routes_of, row_order, are_halves, parted, fits, Scanned, answer_at}
-use Rattle.route_pairs.proofs.Tests.{cases, same_or, below_or, and_true, or_true}
+use Rattle.route_pairs.specs.RouteOrder.{boundary_at, routes_of, row_order, are_halves, parted, fits, Scanned, DecidesAt}
+use Rattle.identity.proofs.Tests.{cases, below_or_not, both}
+use Rattle.route_pairs.proofs.Tests.{same_or, or_true}
 use Rattle.route_pairs.proofs.Order.{by_numbers, between}
 use Rattle.route_pairs.proofs.Rows.{row_inside, row_route, row_once, has_place}
 use Rattle.route_pairs.proofs.Scan.{scan_start}
@@ -49,11 +50,11 @@ module _ (text : IdentityPlace → List ℕ) (p rows : List ℕ) where
 
   fits_next : (k : ℕ) → fits text p rows k ≡ true → k + 1 < length rows → key k ≡ key (k + 1) → are_halves (route_at p (at k)) (route_at p (at (k + 1))) ≡ true
   unfolding fits
-  fits_next k h g e = or_true (parted text p rows k (k + 1)) _ h (λ t. absurd (parted_not k (k + 1) t g e)) (λ t. (and_true (are_halves (route_at p (at k)) (route_at p (at (k + 1)))) _ t).0)
+  fits_next k h g e = or_true (parted text p rows k (k + 1)) _ h (λ t. absurd (parted_not k (k + 1) t g e)) (λ t. (both (are_halves (route_at p (at k)) (route_at p (at (k + 1)))) _ t).0)
 
   fits_third : (k : ℕ) → fits text p rows k ≡ true → k + 2 < length rows → key k ≡ key (k + 1) → key k ≡ key (k + 2) → ⊥
   unfolding fits
-  fits_third k h g e f = or_true (parted text p rows k (k + 1)) _ h (λ t. parted_not k (k + 1) t (omega arith) e) (λ t. parted_not k (k + 2) (and_true (are_halves (route_at p (at k)) (route_at p (at (k + 1)))) _ t).1 g f)
+  fits_third k h g e f = or_true (parted text p rows k (k + 1)) _ h (λ t. parted_not k (k + 1) t (omega arith) e) (λ t. parted_not k (k + 2) (both (are_halves (route_at p (at k)) (route_at p (at (k + 1)))) _ t).1 g f)
 
   fits_from : (k : ℕ) → (k + 1 < length rows → key k ≡ key (k + 1) → (are_halves (route_at p (at k)) (route_at p (at (k + 1))) ≡ true) × (k + 2 < length rows → key k ≡ key (k + 2) → ⊥)) → fits text p rows k ≡ true
   unfolding fits
@@ -83,7 +84,7 @@ module _ (text : IdentityPlace → List ℕ) (p rows : List ℕ) (permuted : IsP
 
       twins : (q a b : ℕ) → q < length rows → at text p rows q ≡ n → a < b → b < length rows → key text p rows a ≡ boundary_at text p n → key text p rows b ≡ boundary_at text p n → are_halves (route_at p (at text p rows a)) (route_at p (at text p rows b)) ≡ true
       twins q a b g e h m ea eb =
-          below_or q a
+          below_or_not q a
           (λ lt.
           let w = ap (boundary_at text p) e ∙ sym eb in
           let f = fits_to q q (omega arith) g e (ap (boundary_at text p) e) in
@@ -98,7 +99,7 @@ module _ (text : IdentityPlace → List ℕ) (p rows : List ℕ) (permuted : IsP
           has_place p rows permuted j bj.0 bj.1 (λ b gb eb.
           let ka = ap (boundary_at text p) ea ∙ bi.2 in
           let kb = ap (boundary_at text p) eb ∙ bj.2 in
-          below_or a b
+          below_or_not a b
           (λ lt. bad (rw (ea, eb) at (halves_are p (at text p rows a) (at text p rows b) (twins q a b gq eq lt gb ka kb))))
           (λ ge. same_or a b
           (λ (z : a ≡ b). ne (sym ea ∙ ap (at text p rows) z ∙ eb))
@@ -145,20 +146,20 @@ module _ (f : ℕ → List Check) (i n : ℕ) (few : i ≤ n) (passes : (k : ℕ
   up_to zero h = let e : n - 0 ≡ n = omega arith in rw e refl
   up_to (suc k) h = up_to k (omega arith) ∙ rw (run_next f k n (omega arith), add-one) (first_past (f k) _ (passes k (omega arith)))
 
-  decides : first (run f 0 n) ≡ answer_at f n i
+  decides : DecidesAt f n i
   decides =
-      below_or i n
+      below_or_not i n
       (λ l. up_to i (omega arith) ∙ rw (run_next f i n l, lt-ltb i n l) (first_stays (f i) _ (stops l)))
       (λ g. up_to i (omega arith) ∙ rw (run_over f i n g, le-ltb i n g))
 
 pub fault_decides : (text : IdentityPlace → List ℕ) (p rows list : List ℕ) (least : ℕ) → list ≡ routes_of p → IsPermutation list rows → IsSorted (row_order (boundary_at text p)) rows → Scanned text p rows (length rows) least
-    → first (run (route_record_checks text p) 0 (records_of p)) ≡ answer_at (route_record_checks text p) (records_of p) least
+    → DecidesAt (route_record_checks text p) (records_of p) least
 fault_decides text p rows list least e permuted up s =
     let moved = rw e at permuted in
     decides (route_record_checks text p) least (records_of p) s.within (passes text p rows moved up least s) (stops text p rows moved up least s)
 
 -- of a pack without routes there is none
-pub no_routes : (text : IdentityPlace → List ℕ) (p : List ℕ) → length (routes_of p) ≡ 0 → first (run (route_record_checks text p) 0 (records_of p)) ≡ answer_at (route_record_checks text p) (records_of p) (records_of p)
+pub no_routes : (text : IdentityPlace → List ℕ) (p : List ℕ) → length (routes_of p) ≡ 0 → DecidesAt (route_record_checks text p) (records_of p) (records_of p)
 no_routes text p z = fault_decides text p [] [] (records_of p) (sym (empty (routes_of p) z)) (IsPermutation-refl []) (λ k d l h. absurd (omega arith)) (scan_start text p [])
   where
     empty : (xs : List ℕ) → length xs ≡ 0 → xs ≡ []

@@ -20,7 +20,8 @@ use Rattle.route_pairs.specs.declared.Half.TheVariants.{Inbound, Outbound, Other
 use Rattle.route_pairs.specs.RoutePairs.{is_half, half_at, halves, pair_checks, route_record_checks}
 use Rattle.route_pairs.specs.RouteOrder.{boundary_at, are_halves}
 use Rattle.route_pairs.proofs.Counts.{below_zero, below_some, below_one, below_two}
-use Rattle.route_pairs.proofs.Tests.{cases, same_or, below_or, and_true, not_true}
+use Rattle.identity.proofs.Tests.{cases, below_or_not, both}
+use Rattle.route_pairs.proofs.Tests.{same_or, not_true}
 
 -- the record k is a route of record n's boundary
 abbrev pub Beside : (IdentityPlace → List ℕ) → List ℕ → ℕ → ℕ → Type 0
@@ -32,8 +33,8 @@ Paired p i j = (direction_number (route_at p i).direction ≡ direction_number (
 
 pub halves_are : (p : List ℕ) (i j : ℕ) → are_halves (route_at p i) (route_at p j) ≡ true → Paired p i j
 halves_are p i j h =
-    let d = and_true (not (eqb (direction_number (route_at p i).direction) (direction_number (route_at p j).direction))) _ h in
-    let e = and_true (not (not (eqb (domain_number (route_at p j).timing_domain) (domain_number (route_at p i).timing_domain)))) _ d.1 in
+    let d = both (not (eqb (direction_number (route_at p i).direction) (direction_number (route_at p j).direction))) _ h in
+    let e = both (not (not (eqb (domain_number (route_at p j).timing_domain) (domain_number (route_at p i).timing_domain)))) _ d.1 in
     (eqb-false _ _ (not_true _ d.0), eqb-true _ _ (same _ e.0), eqb-true _ _ (same _ e.1))
   where
     same : (x : Bool) → not (not x) ≡ true → x ≡ true
@@ -76,8 +77,8 @@ module _ (text : IdentityPlace → List ℕ) (p : List ℕ) (n : ℕ) (inside : 
   -- a record that is counted, both ways
   counts : (half : Half) (k : ℕ) → k < records_of p → half_at text p own half k ≡ true → Beside text p n k × (is_half half own (route_at p k) ≡ true)
   counts half k g h =
-      let a = and_true (is_of p 23 k) _ h in
-      let b = and_true (is_equal (compared (boundary_at text p k) (boundary_at text p n))) (is_half half own (route_at p k)) a.1 in
+      let a = both (is_of p 23 k) _ h in
+      let b = both (is_equal (compared (boundary_at text p k) (boundary_at text p n))) (is_half half own (route_at p k)) a.1 in
       ((g, a.0, same_so _ _ b.0), b.1)
 
   is_counted : (half : Half) (k : ℕ) → Beside text p n k → is_half half own (route_at p k) ≡ true → half_at text p own half k ≡ true
@@ -128,7 +129,7 @@ module _ (text : IdentityPlace → List ℕ) (p : List ℕ) (n : ℕ) (inside : 
     two_of half few i j bi bj ne hi hj =
         let a = is_counted half i bi hi in
         let b = is_counted half j bj hj in
-        below_or i j
+        below_or_not i j
         (λ lt. let t = below_two (half_at text p own half) (records_of p) i j lt bj.0 a b in omega arith)
         (λ ge. let t = below_two (half_at text p own half) (records_of p) j i (omega arith) bi.0 b a in omega arith)
 

@@ -6,7 +6,7 @@ use Rattle.std.proofs.lemmas.List.Sums.{sum_by-cons, sum_by-append, get_or-le-su
 use Rattle.schema.specs.Records.{is_of, records_of, count_below}
 use Rattle.route_pairs.specs.RouteOrder.{routes_below, routes_of}
 use Rattle.route_pairs.proofs.Counts.{below_zero, below_some, below_one}
-use Rattle.route_pairs.proofs.Tests.{cases, below_or, and_true}
+use Rattle.identity.proofs.Tests.{cases, below_or_not, both}
 
 module _ (p : List ℕ) where
   pub routes_none : routes_below p 0 ≡ []
@@ -41,21 +41,17 @@ module _ (p : List ℕ) where
       let e = count_next n in
       grind arith
 
-  -- a route has its place
-  pub routes_within : (n m : ℕ) → n < m → is_of p 23 n ≡ true → length (routes_below p n) < length (routes_below p m)
-  routes_within n m h e =
-      let d : (n + 1) + (m - (n + 1)) ≡ m = omega arith in
-      let u = rw d at (count_up (n + 1) (m - (n + 1))) in
-      let c = rw (e) at (count_next n) in
-      omega arith
-
   -- in a list with a place for each route there is one for the next
-  module _ (rows : List ℕ) (n found : ℕ) (room : length rows ≡ length (routes_of p)) (counted : found ≡ length (routes_below p n)) (inside : n < records_of p) (route : is_of p 23 n ≡ true) where
-    pub list_room : found < length rows
-    list_room = let h = routes_within n (records_of p) inside route in omega arith
+  module _ (n : ℕ) (inside : n < records_of p) (route : is_of p 23 n ≡ true) where
+    pub list_room : length (routes_below p n) < length (routes_of p)
+    list_room =
+        let d : (n + 1) + (records_of p - (n + 1)) ≡ records_of p = omega arith in
+        let u = rw d at (count_up (n + 1) (records_of p - (n + 1))) in
+        let c = rw route at (count_next n) in
+        omega arith
 
-    pub list_route : take found rows ≡ routes_below p n → take (found + 1) (set rows found n) ≡ routes_below p (n + 1)
-    list_route had = let h = list_room in rw (add-one found, take-suc-set rows found n h, had) (sym (rw route at (routes_next n)))
+    pub list_route : (rows : List ℕ) (found : ℕ) → found < length rows → take found rows ≡ routes_below p n → take (found + 1) (set rows found n) ≡ routes_below p (n + 1)
+    list_route rows found h had = rw (add-one found, take-suc-set rows found n h, had) (sym (rw route at (routes_next n)))
 
   pub list_other : (rows : List ℕ) (n found : ℕ) → take found rows ≡ routes_below p n → is_of p 23 n ≡ false → take found rows ≡ routes_below p (n + 1)
   list_other rows n found had e = had ∙ sym (rw (routes_next n, e, append-nil))
@@ -92,10 +88,10 @@ module _ (f : ℕ → Bool) where
 
 -- the routes in any order: each row is a route, no two are the same, and each route has a place
 module _ (p rows : List ℕ) (permuted : IsPermutation (routes_of p) rows) where
-  abbrev both : (ℕ → Bool) → ℕ → Bool
-  both f k = is_of p 23 k && f k
+  abbrev among : (ℕ → Bool) → ℕ → Bool
+  among f k = is_of p 23 k && f k
 
-  counted : (f : ℕ → Bool) → count_by f rows ≡ count_below (both f) (records_of p)
+  counted : (f : ℕ → Bool) → count_by f rows ≡ count_below (among f) (records_of p)
   counted f = sum_by-IsPermutation (λ x. cond (f x) 1 0) (routes_of p) rows permuted ∙ count_below_is f p (records_of p)
 
   -- a number that no record of a route has is in no row
@@ -103,11 +99,11 @@ module _ (p rows : List ℕ) (permuted : IsPermutation (routes_of p) rows) where
   not_none k h none =
       let v = get_or rows k 0 in
       let c = count_some (λ j. eqb j v) rows k h (eq-eqb v v refl) in
-      let z = below_zero (both (λ j. eqb j v)) (records_of p) (λ j g. cases (both (λ i. eqb i v) j) (λ t. let q = and_true (is_of p 23 j) (eqb j v) t in absurd (none j g q.0 (eqb-true j v q.1))) (λ u. u)) in
+      let z = below_zero (among (λ j. eqb j v)) (records_of p) (λ j g. cases (among (λ i. eqb i v) j) (λ t. let q = both (is_of p 23 j) (eqb j v) t in absurd (none j g q.0 (eqb-true j v q.1))) (λ u. u)) in
       omega (arith, counted (λ j. eqb j v))
 
   pub row_inside : (k : ℕ) → k < length rows → get_or rows k 0 < records_of p
-  row_inside k h = below_or (get_or rows k 0) (records_of p) (λ g. g) (λ g. absurd (not_none k h (λ j l t e. omega arith)))
+  row_inside k h = below_or_not (get_or rows k 0) (records_of p) (λ g. g) (λ g. absurd (not_none k h (λ j l t e. omega arith)))
 
   pub row_route : (k : ℕ) → k < length rows → is_of p 23 (get_or rows k 0) ≡ true
   row_route k h = cases (is_of p 23 (get_or rows k 0)) (λ t. t) (λ u. absurd (not_none k h (λ j l t e. true≢false (sym t ∙ ap (is_of p 23) e ∙ u))))
@@ -116,14 +112,14 @@ module _ (p rows : List ℕ) (permuted : IsPermutation (routes_of p) rows) where
   row_once a b h g e =
       let v = get_or rows b 0 in
       let c = count_two (λ j. eqb j v) rows a b h g (eq-eqb _ v e) (eq-eqb v v refl) in
-      let o = below_one (both (λ j. eqb j v)) (records_of p) (λ i j m n x y. eqb-true i v (and_true (is_of p 23 i) (eqb i v) x).1 ∙ sym (eqb-true j v (and_true (is_of p 23 j) (eqb j v) y).1)) in
+      let o = below_one (among (λ j. eqb j v)) (records_of p) (λ i j m n x y. eqb-true i v (both (is_of p 23 i) (eqb i v) x).1 ∙ sym (eqb-true j v (both (is_of p 23 j) (eqb j v) y).1)) in
       omega (arith, counted (λ j. eqb j v))
 
   pub has_place : (n : ℕ) → n < records_of p → is_of p 23 n ≡ true → ((k : ℕ) → k < length rows → get_or rows k 0 ≡ n → ⊥) → ⊥
   has_place n h e never =
       let c = count_zero (λ j. eqb j n) rows (λ k g. ne_eqb (get_or rows k 0) n (never k g)) in
-      let i : both (λ j. eqb j n) n ≡ true = rw (e, eq-eqb n n refl) in
-      let u = below_some (both (λ j. eqb j n)) (records_of p) n h i in
+      let i : among (λ j. eqb j n) n ≡ true = rw (e, eq-eqb n n refl) in
+      let u = below_some (among (λ j. eqb j n)) (records_of p) n h i in
       omega (arith, counted (λ j. eqb j n))
 
-pub ruleset rows_laws = (count_none, count_next, count_few, routes_none, list_route, list_other, take_all)
+pub ruleset rows_laws = (count_none, count_next, count_few, routes_none, list_room, list_route, list_other, take_all)

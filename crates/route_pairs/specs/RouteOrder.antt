@@ -8,16 +8,15 @@ use Rattle.identity.specs.declared.ByteOrder.{ByteOrder}
 use Rattle.identity.specs.declared.ByteOrder.TheVariants.{Less, Equal, Greater}
 use Rattle.identity.specs.Text.{identity_text}
 use Rattle.identity.specs.Order.{compared}
-use Rattle.answers.specs.declared.Outcome.{Outcome}
 use Rattle.answers.specs.declared.Outcome.TheVariants.{Passed}
-use Rattle.answers.specs.Checks.{Check, first}
+use Rattle.answers.specs.Checks.{Check, first, run}
 use Rattle.schema.specs.declared.rows.RouteImage.{RouteImage}
 use Rattle.schema.specs.Rows.{route_at}
 use Rattle.schema.specs.Records.{records_of, is_of, direction_number}
 use Rattle.checks.specs.Identities.{is_equal}
 use Rattle.route_pairs.specs.declared.Routes.{Routes}
 use Rattle.route_pairs.specs.declared.Half.TheVariants.{OtherDomain, OtherDelay}
-use Rattle.route_pairs.specs.RoutePairs.{is_half}
+use Rattle.route_pairs.specs.RoutePairs.{is_half, route_record_checks}
 
 -- the text that an identity names, and the text of record n's boundary
 abbrev pub text_of : Routes → IdentityPlace → List ℕ
@@ -66,6 +65,10 @@ module _ (text : IdentityPlace → List ℕ) (p rows : List ℕ) where
     pub passed : (j : ℕ) → j < k → slice_index rows j < least → fits j ≡ true
     pub named : least < records_of p → ((j : ℕ) → j < k → slice_index rows j ≡ least → fits j ≡ true) → ⊥
 
--- the answer of the i-th of n lists of checks; none is at fault past them
-abbrev pub answer_at : (ℕ → List Check) → ℕ → ℕ → Outcome
-answer_at f n i = cond (ltb i n) (first (f i)) Passed
+-- of n lists of checks the i-th is the first that does not pass; all pass where i is n
+abbrev pub DecidesAt : (ℕ → List Check) → ℕ → ℕ → Type 0
+DecidesAt f n i = first (run f 0 n) ≡ cond (ltb i n) (first (f i)) Passed
+
+-- record i is the first route at fault
+abbrev pub FirstFault : Routes → ℕ → Type 0
+FirstFault r i = DecidesAt (route_record_checks (text_of r) r.pack.bytes.now) (records_of r.pack.bytes.now) i

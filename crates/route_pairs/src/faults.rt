@@ -1,10 +1,6 @@
 // The first route at fault: rows sorted by their boundaries, and one pass over neighbours.
 ghost use Rattle.std.specs.Prelude.{◌≡◌, ◌<◌, ◌≤◌, length, slice_index, IsPermutation, IsSorted};
-ghost use Rattle.answers.specs.Checks.{first, run};
-ghost use Rattle.schema.specs.Rows.{route_at};
-ghost use Rattle.schema.specs.Records.{records_of};
-ghost use Rattle.route_pairs.specs.RoutePairs.{route_record_checks};
-ghost use Rattle.route_pairs.specs.RouteOrder.{text_of, boundary_at, routes_of, row_order, are_halves, parted, fits, Scanned, answer_at};
+ghost use Rattle.route_pairs.specs.RouteOrder.{text_of, boundary_at, routes_of, row_order, are_halves, parted, fits, Scanned, FirstFault};
 
 use crate::{Half, Routes, is_half};
 use identity::ByteOrder;
@@ -29,7 +25,7 @@ fn are_halves(a: RouteImage, b: RouteImage) -> bool
 impl<'a> Routes<'a> {
     // How many routes the pack has.
     #[tactic(auto, using(crate::proofs::Rows::rows_laws))]
-    pub fn count(self) -> usize
+    fn count(self) -> usize
         ensures { result ≡ length (routes_of self.entry.pack.bytes.now) }
     {
         let mut found = 0;
@@ -122,7 +118,7 @@ impl<'a> Routes<'a> {
     // The first record at fault, or the number of records; `rows` has a place for each route.
     fn first_fault_in(self, rows: &mut [u32]) -> usize
         requires { length rows.old ≡ length (routes_of self.pack.bytes.now) }
-        ensures { let p = self.entry.pack.bytes.now in let f = route_record_checks (text_of self.entry) p in first (run f 0 (records_of p)) ≡ answer_at f (records_of p) result }
+        ensures { FirstFault self.entry result }
     {
         self.list(rows);
         self.sort(rows);
@@ -135,7 +131,7 @@ impl<'a> Routes<'a> {
         requires all { routes ≡ length (routes_of self.pack.bytes.now) }
         requires room { routes ≤ ROOM }
         requires few { ROOM ≤ 65536 }
-        ensures { let p = self.entry.pack.bytes.now in let f = route_record_checks (text_of self.entry) p in first (run f 0 (records_of p)) ≡ answer_at f (records_of p) result }
+        ensures { FirstFault self.entry result }
     {
         let mut rows = [0u32; ROOM];
         self.first_fault_in(&mut rows[..routes])
@@ -144,7 +140,7 @@ impl<'a> Routes<'a> {
     // The first record at fault; the number of records where none is.
     #[tactic(auto, using(crate::proofs::Rows::count_few, crate::proofs::FirstFault::no_routes))]
     pub fn first_fault(self) -> usize
-        ensures { let p = self.entry.pack.bytes.now in let f = route_record_checks (text_of self.entry) p in first (run f 0 (records_of p)) ≡ answer_at f (records_of p) result }
+        ensures { FirstFault self.entry result }
     {
         let routes = self.count();
         if routes == 0 {

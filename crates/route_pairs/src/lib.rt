@@ -20,7 +20,7 @@ use schema::rows::RouteImage;
 
 // What is counted among the routes of one boundary.
 #[derive(Clone, Copy)]
-pub enum Half {
+enum Half {
     Inbound,
     Outbound,
     OtherDomain,
@@ -29,7 +29,7 @@ pub enum Half {
 
 // The records of a federate, and the two texts that its identities name parts of.
 #[derive(Clone, Copy)]
-pub struct Routes<'a> {
+struct Routes<'a> {
     pack: Pack<'a>,
     batch: &'a [u8],
     house: &'a [u8],
@@ -52,11 +52,8 @@ impl<'a> Routes<'a> {
     fn same_boundary(self, a: RouteImage, b: RouteImage) -> bool
         ensures { result ≡ is_equal (compared (text_of self.entry a.boundary) (text_of self.entry b.boundary)) }
     {
-        match compare_places(self.batch, self.house, a.boundary, b.boundary) {
-            ByteOrder::Less => false,
-            ByteOrder::Equal => true,
-            ByteOrder::Greater => false,
-        }
+        let order = compare_places(self.batch, self.house, a.boundary, b.boundary);
+        matches!(order, ByteOrder::Equal)
     }
 
     // Whether record k is a route of the boundary that counts.
