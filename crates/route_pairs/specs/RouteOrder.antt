@@ -1,81 +1,74 @@
 -- Rows of routes in the order of their boundaries. Only the inner functions of the sort and of the scan say what they do by these. Assumes nothing.
-use Rattle.std.specs.Prelude.{ℕ, ◌+◌, ◌<◌, ◌≤◌, Bool, true, false, not, ◌&&◌, cond, ◌≡◌, List, [], ◌∷◌, eqb, leb, length, get_or}
+use Rattle.std.specs.Prelude.{ℕ, zero, suc, ◌+◌, ◌<◌, ◌≤◌, Bool, true, not, ◌&&◌, ◌||◌, cond, ◌≡◌, List, [], ◌∷◌, ◌++◌, eqb, leb, ltb, length, slice_index}
+use Rattle.std.specs.Ordering.{nat_cmp}
+use Rattle.std.specs.declared.cmp.Ordering.{Ordering}
+use Rattle.std.specs.declared.cmp.Ordering.TheVariants as order
 use Rattle.identity.specs.declared.IdentityPlace.{IdentityPlace}
 use Rattle.identity.specs.declared.ByteOrder.{ByteOrder}
 use Rattle.identity.specs.declared.ByteOrder.TheVariants.{Less, Equal, Greater}
+use Rattle.identity.specs.Text.{identity_text}
 use Rattle.identity.specs.Order.{compared}
 use Rattle.answers.specs.declared.Outcome.TheVariants.{Passed}
-use Rattle.answers.specs.Checks.{Check, first}
+use Rattle.answers.specs.Checks.{Check, first, run}
 use Rattle.schema.specs.declared.rows.RouteImage.{RouteImage}
 use Rattle.schema.specs.Rows.{route_at}
-use Rattle.packing.specs.Starts.{records_of}
-use Rattle.schema.specs.Records.{direction_number}
-use Rattle.federate.specs.declared.route_pairs.Half.TheVariants.{OtherDomain, OtherDelay}
-use Rattle.federate.specs.Records.{is_of, count_below}
-use Rattle.federate.specs.RoutePairs.{is_half}
+use Rattle.schema.specs.Records.{records_of, is_of, direction_number}
+use Rattle.checks.specs.Identities.{is_equal}
+use Rattle.route_pairs.specs.declared.Routes.{Routes}
+use Rattle.route_pairs.specs.declared.Half.TheVariants.{OtherDomain, OtherDelay}
+use Rattle.route_pairs.specs.RoutePairs.{is_half, route_record_checks}
 
--- the text of record n's boundary
+-- the text that an identity names, and the text of record n's boundary
+abbrev pub text_of : Routes → IdentityPlace → List ℕ
+text_of r = identity_text r.batch.now r.house.now
+
 abbrev pub boundary_at : (IdentityPlace → List ℕ) → List ℕ → ℕ → List ℕ
 boundary_at text p n = text (route_at p n).boundary
 
--- t decides where the texts are the same
-abbrev pub not_after : ByteOrder → Bool → Bool
-not_after Less t = true
-not_after Equal t = t
-not_after Greater t = false
+-- the records below n that are routes
+unfoldable pub routes_below : List ℕ → ℕ → List ℕ
+routes_below p zero = []
+routes_below p (suc n) = routes_below p n ++ cond (is_of p 23 n) (n ∷ []) []
 
--- row a stands before row b, or is it: by its text, then by its number
-unfoldable pub before : (ℕ → List ℕ) → ℕ → ℕ → Bool
-before key a b = not_after (compared (key a) (key b)) (leb a b)
+abbrev pub routes_of : List ℕ → List ℕ
+routes_of p = routes_below p (records_of p)
 
--- how many of a list pass a test
-unfoldable pub count : (ℕ → Bool) → List ℕ → ℕ
-count f [] = 0
-count f (x ∷ xs) = cond (f x) 1 0 + count f xs
+-- o decides where the texts are the same
+abbrev pub then : ByteOrder → Ordering → Ordering
+then Less o = order.Less
+then Equal o = o
+then Greater o = order.Greater
 
-pub record Ordered (le : ℕ → ℕ → Bool) (xs : List ℕ) : Type 0 where
-  pub at : (a b : ℕ) → a < b → b < length xs → le (get_or xs a 0) (get_or xs b 0) ≡ true
-
--- zs is in order, and has what xs and ys have
-pub record Merged (le : ℕ → ℕ → Bool) (xs ys zs : List ℕ) : Type 0 where
-  pub ordered : Ordered le zs
-  pub counts : (f : ℕ → Bool) → count f zs ≡ count f xs + count f ys
-
-pub record Sorted (le : ℕ → ℕ → Bool) (xs zs : List ℕ) : Type 0 where
-  pub ordered : Ordered le zs
-  pub counts : (f : ℕ → Bool) → count f zs ≡ count f xs
-
--- whether the next of two lists, at i and at j, is the first's
-pub record Picks (le : ℕ → ℕ → Bool) (xs ys : List ℕ) (i j : ℕ) (r : Bool) : Type 0 where
-  pub yes : r ≡ true → (i < length xs) × (j < length ys → le (get_or xs i 0) (get_or ys j 0) ≡ true)
-  pub other : r ≡ false → (j < length ys) × (i < length xs → le (get_or ys j 0) (get_or xs i 0) ≡ true)
-
--- the rows are the records of table t, in any order
-pub record Listed (p : List ℕ) (t : ℕ) (rows : List ℕ) : Type 0 where
-  pub all : (f : ℕ → Bool) → count f rows ≡ count_below (λ n. is_of p t n && f n) (records_of p)
+-- rows by their texts, then by their numbers
+unfoldable pub row_order : (ℕ → List ℕ) → ℕ → ℕ → Ordering
+row_order key a b = then (compared (key a) (key b)) (nat_cmp a b)
 
 -- two routes of one boundary that are its two halves: one in and one out, of one domain and one delay
 abbrev pub are_halves : RouteImage → RouteImage → Bool
 are_halves a b = not (eqb (direction_number a.direction) (direction_number b.direction)) && (not (is_half OtherDomain a b) && not (is_half OtherDelay a b))
 
--- the row after place k is of another boundary, or it is the other half and the next one is of another boundary
-pub record Fits (text : IdentityPlace → List ℕ) (p rows : List ℕ) (k : ℕ) : Type 0 where
-  pub next : k + 1 < length rows → boundary_at text p (get_or rows k 0) ≡ boundary_at text p (get_or rows (k + 1) 0) → are_halves (route_at p (get_or rows k 0)) (route_at p (get_or rows (k + 1) 0)) ≡ true
-  pub third : k + 2 < length rows → boundary_at text p (get_or rows k 0) ≡ boundary_at text p (get_or rows (k + 1) 0) → boundary_at text p (get_or rows k 0) ≡ boundary_at text p (get_or rows (k + 2) 0) → ⊥
+-- the rows of the pack p in some order, as its texts say
+module _ (text : IdentityPlace → List ℕ) (p rows : List ℕ) where
+  -- no row at place j is of the boundary of the row at place k
+  abbrev pub parted : ℕ → ℕ → Bool
+  parted k j =
+      leb (length rows) j
+      || not (is_equal (compared (boundary_at text p (slice_index rows k)) (boundary_at text p (slice_index rows j))))
 
--- r tells whether A holds
-pub record Tells (A : Type 0) (r : Bool) : Type 0 where
-  pub yes : r ≡ true → A
-  pub other : r ≡ false → A → ⊥
+  -- the row at place k is the last of its boundary, or the other half follows it and no third
+  unfoldable pub fits : ℕ → Bool
+  fits k = parted k (k + 1) || (are_halves (route_at p (slice_index rows k)) (route_at p (slice_index rows (k + 1))) && parted k (k + 2))
 
--- of the first k places, those with a row below `least` fit; not all of that row do, where it is a record
-pub record Scanned (text : IdentityPlace → List ℕ) (p rows : List ℕ) (k least : ℕ) : Type 0 where
-  pub within : least ≤ records_of p
-  pub fits : (j : ℕ) → j < k → get_or rows j 0 < least → Fits text p rows j
-  pub named : least < records_of p → ((j : ℕ) → j < k → get_or rows j 0 ≡ least → Fits text p rows j) → ⊥
+  -- of the first k places, those with a row below `least` fit; not all of that row do, where it is a record
+  pub record Scanned (k least : ℕ) : Type 0 where
+    pub within : least ≤ records_of p
+    pub passed : (j : ℕ) → j < k → slice_index rows j < least → fits j ≡ true
+    pub named : least < records_of p → ((j : ℕ) → j < k → slice_index rows j ≡ least → fits j ≡ true) → ⊥
 
--- of n lists of checks, the first i pass, and the next does not
-pub record FirstFault (f : ℕ → List Check) (i n : ℕ) : Type 0 where
-  pub within : i ≤ n
-  pub passes : (k : ℕ) → k < i → first (f k) ≡ Passed
-  pub stops : i < n → first (f i) ≡ Passed → ⊥
+-- of n lists of checks the i-th is the first that does not pass; all pass where i is n
+abbrev pub DecidesAt : (ℕ → List Check) → ℕ → ℕ → Type 0
+DecidesAt f n i = first (run f 0 n) ≡ cond (ltb i n) (first (f i)) Passed
+
+-- record i is the first route at fault
+abbrev pub FirstFault : Routes → ℕ → Type 0
+FirstFault r i = DecidesAt (route_record_checks (text_of r) r.pack.bytes.now) (records_of r.pack.bytes.now) i

@@ -5,20 +5,12 @@ use Rattle.identity.specs.Order.{compared}
 use Rattle.answers.specs.declared.Refusal.TheVariants.{DuplicateRouteHalf, RoutePairMismatch}
 use Rattle.answers.specs.Fields as field
 use Rattle.answers.specs.Checks.{Check, need}
-use Rattle.schema.specs.declared.index.TimingDomain.{TimingDomain}
-use Rattle.schema.specs.declared.index.TimingDomain.TheVariants.{Logical, Physical}
 use Rattle.schema.specs.declared.rows.RouteImage.{RouteImage}
 use Rattle.schema.specs.Rows.{route_at}
-use Rattle.packing.specs.Starts.{records_of}
+use Rattle.schema.specs.Records.{records_of, is_of, count_below, direction_number, domain_number}
 use Rattle.checks.specs.Identities.{is_equal}
-use Rattle.schema.specs.Records.{direction_number}
-use Rattle.federate.specs.declared.route_pairs.Half.{Half}
-use Rattle.federate.specs.declared.route_pairs.Half.TheVariants.{Inbound, Outbound, OtherDomain, OtherDelay}
-use Rattle.federate.specs.Records.{is_of, count_below}
-
-abbrev pub domain_number : TimingDomain → ℕ
-domain_number Logical = 0
-domain_number Physical = 1
+use Rattle.route_pairs.specs.declared.Half.{Half}
+use Rattle.route_pairs.specs.declared.Half.TheVariants.{Inbound, Outbound, OtherDomain, OtherDelay}
 
 -- a route c beside the route r: inbound, outbound, of another domain, of another delay
 abbrev pub is_half : Half → RouteImage → RouteImage → Bool

@@ -1,10 +1,5 @@
 -- A route passes where the routes of its boundary are two by two its halves, and only there. Assumes nothing.
-use Prim.Native.Nat.{ℕ, ◌<◌, ◌≤◌}
-use mathlib.Core.Bool.{Bool, true, false, not}
-use mathlib.Core.List.{List, ◌∷◌}
-use mathlib.Core.Path.{◌≡◌, refl, ap, sym, ◌∙◌}
-use native.Mathlib.Omega.{arith}
-use lib.Dec.{eqb, leb}
+use Rattle.std.proofs.Common.{ℕ, ◌<◌, ◌≤◌, ◌≡◌, Bool, true, false, not, eqb, leb, List, ◌∷◌, refl, sym, ap, ◌∙◌, arith}
 use borrow.Author.Tests.{eq-eqb, ne_eqb, le-leb, leb-true, eqb-true, eqb-false}
 use Rattle.identity.specs.declared.IdentityPlace.{IdentityPlace}
 use Rattle.identity.specs.declared.ByteOrder.{ByteOrder}
@@ -13,23 +8,20 @@ use Rattle.identity.specs.Order.{compared}
 use Rattle.identity.proofs.Order.{compared_same, compared-equal}
 use Rattle.answers.specs.declared.Refusal.{Refusal}
 use Rattle.answers.specs.declared.Outcome.TheVariants.{Passed}
-use Rattle.answers.specs.Checks.{Check, need, first, Decides}
-use Rattle.answers.proofs.Laws.{none, pass}
+use Rattle.answers.specs.Checks.{Check, need, first}
 use Rattle.schema.specs.declared.index.RouteDirection.{RouteDirection}
 use Rattle.schema.specs.declared.index.RouteDirection.TheVariants as direction
 use Rattle.schema.specs.declared.rows.RouteImage.{RouteImage}
 use Rattle.schema.specs.Rows.{route_at}
-use Rattle.packing.specs.Starts.{records_of}
+use Rattle.schema.specs.Records.{records_of, is_of, direction_number, domain_number}
 use Rattle.checks.specs.Identities.{is_equal}
-use Rattle.schema.specs.Records.{direction_number}
-use Rattle.federate.specs.declared.route_pairs.Half.{Half}
-use Rattle.federate.specs.declared.route_pairs.Half.TheVariants.{Inbound, Outbound, OtherDomain, OtherDelay}
-use Rattle.federate.specs.Records.{is_of}
-use Rattle.federate.specs.RoutePairs.{domain_number, is_half, half_at, halves, pair_checks, route_record_checks}
-use Rattle.federate.specs.RouteOrder.{boundary_at, are_halves}
-use Rattle.federate.proofs.Tests.{cases, no_both}
-use Rattle.federate.proofs.SortLaws.{below_or, same_or}
-use Rattle.federate.proofs.RowLaws.{both, not_so, below-zero, below-some, below_one, below_two}
+use Rattle.route_pairs.specs.declared.Half.{Half}
+use Rattle.route_pairs.specs.declared.Half.TheVariants.{Inbound, Outbound, OtherDomain, OtherDelay}
+use Rattle.route_pairs.specs.RoutePairs.{is_half, half_at, halves, pair_checks, route_record_checks}
+use Rattle.route_pairs.specs.RouteOrder.{boundary_at, are_halves}
+use Rattle.route_pairs.proofs.Counts.{below_zero, below_some, below_one, below_two}
+use Rattle.identity.proofs.Tests.{cases, below_or_not, both}
+use Rattle.route_pairs.proofs.Tests.{same_or, not_true}
 
 -- the record k is a route of record n's boundary
 abbrev pub Beside : (IdentityPlace → List ℕ) → List ℕ → ℕ → ℕ → Type 0
@@ -43,36 +35,40 @@ pub halves_are : (p : List ℕ) (i j : ℕ) → are_halves (route_at p i) (route
 halves_are p i j h =
     let d = both (not (eqb (direction_number (route_at p i).direction) (direction_number (route_at p j).direction))) _ h in
     let e = both (not (not (eqb (domain_number (route_at p j).timing_domain) (domain_number (route_at p i).timing_domain)))) _ d.1 in
-    (eqb-false _ _ (not_so _ d.0), eqb-true _ _ (same _ e.0), eqb-true _ _ (same _ e.1))
+    (eqb-false _ _ (not_true _ d.0), eqb-true _ _ (same _ e.0), eqb-true _ _ (same _ e.1))
   where
     same : (x : Bool) → not (not x) ≡ true → x ≡ true
     same true g = refl
     same false g = g
 
-pub are-halves : (p : List ℕ) (i j : ℕ) → Paired p i j → are_halves (route_at p i) (route_at p j) ≡ true
-are-halves p i j h = rw (ne_eqb _ _ h.0, eq-eqb _ _ h.1, eq-eqb _ _ h.2)
+pub are_paired : (p : List ℕ) (i j : ℕ) → Paired p i j → are_halves (route_at p i) (route_at p j) ≡ true
+are_paired p i j h = rw (ne_eqb _ _ h.0, eq-eqb _ _ h.1, eq-eqb _ _ h.2)
 
-equal-so : (o : ByteOrder) → is_equal o ≡ true → o ≡ Equal
-equal-so Less h = absurd (no_both false h refl)
-equal-so Equal h = refl
-equal-so Greater h = absurd (no_both false h refl)
+-- what a test of two texts tells
+pub same_so : (a b : List ℕ) → is_equal (compared a b) ≡ true → a ≡ b
+same_so a b h = compared-equal a b (equal (compared a b) h)
+  where
+    equal : (o : ByteOrder) → is_equal o ≡ true → o ≡ Equal
+    equal Less e = absurd (cc)
+    equal Equal e = refl
+    equal Greater e = absurd (cc)
+
+-- of three routes two go one way
+way_few : (d : RouteDirection) → direction_number d ≤ 1
+way_few direction.Inbound = omega arith
+way_few direction.Outbound = omega arith
+
+pub three_ways : (a b c : RouteDirection) → (direction_number a ≡ direction_number b → ⊥) → (direction_number a ≡ direction_number c → ⊥) → (direction_number b ≡ direction_number c → ⊥) → ⊥
+three_ways a b c x y z = omega (arith, way_few a, way_few b, way_few c)
 
 by_way {ℓ} : {X : Type ℓ} (d : RouteDirection) → (direction_number d ≡ 0 → X) → (direction_number d ≡ 1 → X) → X
 by_way direction.Inbound a b = a refl
 by_way direction.Outbound a b = b refl
 
--- of three routes two go one way
-way-few : (d : RouteDirection) → direction_number d ≤ 1
-way-few direction.Inbound = omega arith
-way-few direction.Outbound = omega arith
-
-pub three_ways : (a b c : RouteDirection) → (direction_number a ≡ direction_number b → ⊥) → (direction_number a ≡ direction_number c → ⊥) → (direction_number b ≡ direction_number c → ⊥) → ⊥
-three_ways a b c x y z = omega (arith, way-few a, way-few b, way-few c)
-
-passed-so : (b : Bool) (r : Refusal) (cs : List Check) → first (need b r ∷ cs) ≡ Passed → (b ≡ true) × (first cs ≡ Passed)
+passed_so : (b : Bool) (r : Refusal) (cs : List Check) → first (need b r ∷ cs) ≡ Passed → (b ≡ true) × (first cs ≡ Passed)
 unfolding first
-passed-so true r cs e = (refl, e)
-passed-so false r cs e = absurd (let z : ◌≡◌ {A = ℕ} 0 1 = cc in omega arith)
+passed_so true r cs e = (refl, e)
+passed_so false r cs e = absurd (cc)
 
 module _ (text : IdentityPlace → List ℕ) (p : List ℕ) (n : ℕ) (inside : n < records_of p) (route : is_of p 23 n ≡ true) where
   abbrev own : RouteImage
@@ -83,10 +79,10 @@ module _ (text : IdentityPlace → List ℕ) (p : List ℕ) (n : ℕ) (inside : 
   counts half k g h =
       let a = both (is_of p 23 k) _ h in
       let b = both (is_equal (compared (boundary_at text p k) (boundary_at text p n))) (is_half half own (route_at p k)) a.1 in
-      ((g, a.0, compared-equal _ _ (equal-so _ b.0)), b.1)
+      ((g, a.0, same_so _ _ b.0), b.1)
 
-  is-counted : (half : Half) (k : ℕ) → Beside text p n k → is_half half own (route_at p k) ≡ true → half_at text p own half k ≡ true
-  is-counted half k b h =
+  is_counted : (half : Half) (k : ℕ) → Beside text p n k → is_half half own (route_at p k) ≡ true → half_at text p own half k ≡ true
+  is_counted half k b h =
       let q : compared (boundary_at text p k) (boundary_at text p n) ≡ Equal = rw b.2 (compared_same (boundary_at text p n)) in
       rw (b.1, q) h
 
@@ -102,53 +98,54 @@ module _ (text : IdentityPlace → List ℕ) (p : List ℕ) (n : ℕ) (inside : 
 
     no_other : (half : Half) (v : RouteImage → ℕ) → ((k : ℕ) → is_half half own (route_at p k) ≡ true → v (route_at p k) ≡ v own → ⊥) → ((k : ℕ) → Paired p n k → v (route_at p k) ≡ v own) → halves text p own half ≡ 0
     no_other half v differs same =
-        below-zero _ (records_of p) (λ k h. cases (half_at text p own half k)
+        below_zero _ (records_of p) (λ k h. cases (half_at text p own half k)
         (λ t.
         let a = counts half k h t in
         let d = differs k a.1 in
         absurd (pairs n k (inside, route, refl) a.0 (λ e. d (ap (λ (i : ℕ). v (route_at p i)) (sym e))) (λ q. d (same k q))))
         (λ f. f))
 
-    pub route-passes : Decides (pair_checks text p own) Passed
-    route-passes =
-        pass (le-leb _ 1 (one_way Inbound 0 (λ k e. eqb-true _ _ e)))
-        (pass (le-leb _ 1 (one_way Outbound 1 (λ k e. eqb-true _ _ e)))
-        (pass (eq-eqb _ 0 (no_other OtherDomain (λ r. domain_number r.timing_domain) (λ k e. eqb-false _ _ (not_so _ e)) (λ k h. h.1)))
-        (pass (eq-eqb _ 0 (no_other OtherDelay (λ r. r.delay_nanos) (λ k e. eqb-false _ _ (not_so _ e)) (λ k h. h.2)))
-        none)))
+    pub route_passes : first (route_record_checks text p n) ≡ Passed
+    unfolding first route_record_checks
+    route_passes =
+        let a = le-leb _ 1 (one_way Inbound 0 (λ k e. eqb-true _ _ e)) in
+        let b = le-leb _ 1 (one_way Outbound 1 (λ k e. eqb-true _ _ e)) in
+        let c = eq-eqb _ 0 (no_other OtherDomain (λ r. domain_number r.timing_domain) (λ k e. eqb-false _ _ (not_true _ e)) (λ k h. h.1)) in
+        let d = eq-eqb _ 0 (no_other OtherDelay (λ r. r.delay_nanos) (λ k e. eqb-false _ _ (not_true _ e)) (λ k h. h.2)) in
+        rw (route, a, b, c, d)
 
   module _ (good : first (route_record_checks text p n) ≡ Passed) where
     all_pass : (leb (halves text p own Inbound) 1 ≡ true) × (leb (halves text p own Outbound) 1 ≡ true) × (eqb (halves text p own OtherDomain) 0 ≡ true) × (eqb (halves text p own OtherDelay) 0 ≡ true)
     unfolding route_record_checks
     all_pass =
         let g : first (pair_checks text p own) ≡ Passed = rw route at good in
-        let a = passed-so _ _ _ g in
-        let b = passed-so _ _ _ a.1 in
-        let c = passed-so _ _ _ b.1 in
-        let d = passed-so _ _ _ c.1 in
+        let a = passed_so _ _ _ g in
+        let b = passed_so _ _ _ a.1 in
+        let c = passed_so _ _ _ b.1 in
+        let d = passed_so _ _ _ c.1 in
         (a.0, b.0, c.0, d.0)
 
-    two-of : (half : Half) → halves text p own half ≤ 1 → (i j : ℕ) → Beside text p n i → Beside text p n j → (i ≡ j → ⊥) → is_half half own (route_at p i) ≡ true → is_half half own (route_at p j) ≡ true → ⊥
-    two-of half few i j bi bj ne hi hj =
-        let a = is-counted half i bi hi in
-        let b = is-counted half j bj hj in
-        below_or i j
+    two_of : (half : Half) → halves text p own half ≤ 1 → (i j : ℕ) → Beside text p n i → Beside text p n j → (i ≡ j → ⊥) → is_half half own (route_at p i) ≡ true → is_half half own (route_at p j) ≡ true → ⊥
+    two_of half few i j bi bj ne hi hj =
+        let a = is_counted half i bi hi in
+        let b = is_counted half j bj hj in
+        below_or_not i j
         (λ lt. let t = below_two (half_at text p own half) (records_of p) i j lt bj.0 a b in omega arith)
         (λ ge. let t = below_two (half_at text p own half) (records_of p) j i (omega arith) bi.0 b a in omega arith)
 
-    pub ways-differ : (i j : ℕ) → Beside text p n i → Beside text p n j → (i ≡ j → ⊥) → direction_number (route_at p i).direction ≡ direction_number (route_at p j).direction → ⊥
-    ways-differ i j bi bj ne e =
+    pub ways_differ : (i j : ℕ) → Beside text p n i → Beside text p n j → (i ≡ j → ⊥) → direction_number (route_at p i).direction ≡ direction_number (route_at p j).direction → ⊥
+    ways_differ i j bi bj ne e =
         by_way (route_at p j).direction
-        (λ w. two-of Inbound (leb-true _ 1 all_pass.0) i j bi bj ne (eq-eqb _ 0 (e ∙ w)) (eq-eqb _ 0 w))
-        (λ w. two-of Outbound (leb-true _ 1 all_pass.1) i j bi bj ne (eq-eqb _ 1 (e ∙ w)) (eq-eqb _ 1 w))
+        (λ w. two_of Inbound (leb-true _ 1 all_pass.0) i j bi bj ne (eq-eqb _ 0 (e ∙ w)) (eq-eqb _ 0 w))
+        (λ w. two_of Outbound (leb-true _ 1 all_pass.1) i j bi bj ne (eq-eqb _ 1 (e ∙ w)) (eq-eqb _ 1 w))
 
     alike : (half : Half) → eqb (halves text p own half) 0 ≡ true → (k x y : ℕ) → Beside text p n k → is_half half own (route_at p k) ≡ not (eqb x y) → x ≡ y
     alike half z k x y b e =
         cases (eqb x y)
         (λ t. eqb-true x y t)
         (λ f.
-        let s = below-some (half_at text p own half) (records_of p) k b.0 (is-counted half k b (e ∙ rw f)) in
+        let s = below_some (half_at text p own half) (records_of p) k b.0 (is_counted half k b (e ∙ rw f)) in
         absurd (omega (arith, eqb-true (halves text p own half) 0 z)))
 
-    pub pairs-up : (k : ℕ) → Beside text p n k → (n ≡ k → ⊥) → Paired p n k
-    pairs-up k b ne = (ways-differ n k (inside, route, refl) b ne, alike OtherDomain all_pass.2 k _ _ b refl, alike OtherDelay all_pass.3 k _ _ b refl)
+    pub pairs_up : (k : ℕ) → Beside text p n k → (n ≡ k → ⊥) → Paired p n k
+    pairs_up k b ne = (ways_differ n k (inside, route, refl) b ne, alike OtherDomain all_pass.2 k _ _ b refl, alike OtherDelay all_pass.3 k _ _ b refl)

@@ -1,0 +1,49 @@
+-- Counts of the numbers below n that pass a test. Assumes nothing.
+use Rattle.std.proofs.Common.{ℕ, zero, suc, ◌+◌, ◌<◌, ◌≤◌, Bool, true, false, cond, ◌≡◌, refl, add-one, arith}
+use Rattle.schema.specs.Records.{count_below}
+use Rattle.identity.proofs.Tests.{cases}
+use Rattle.route_pairs.proofs.Tests.{same_or}
+
+module _ (f : ℕ → Bool) where
+  pub below_none : count_below f 0 ≡ 0
+  unfolding count_below
+  below_none = refl
+
+  pub below_next : (n : ℕ) → count_below f (n + 1) ≡ count_below f n + cond (f n) 1 0
+  unfolding count_below
+  below_next n = rw add-one
+
+  below_up : (k n : ℕ) → k ≤ n → count_below f k ≤ count_below f n
+  unfolding count_below
+  below_up k zero h = let e : k ≡ 0 = omega arith in rw e (omega arith)
+  below_up k (suc n) h = same_or k (suc n) (λ (e : k ≡ suc n). rw e (omega arith)) (λ ne. let r = below_up k n (omega arith) in omega arith)
+
+  pub below_zero : (n : ℕ) → ((k : ℕ) → k < n → f k ≡ false) → count_below f n ≡ 0
+  unfolding count_below
+  below_zero zero h = refl
+  below_zero (suc n) h = rw (below_zero n (λ k l. h k (omega arith)), h n (omega arith))
+
+  pub below_some : (n k : ℕ) → k < n → f k ≡ true → 1 ≤ count_below f n
+  below_some n k h e =
+      let a = rw e at (below_next k) in
+      let c = below_up (k + 1) n (omega arith) in
+      omega arith
+
+  pub below_one : (n : ℕ) → ((i j : ℕ) → i < n → j < n → f i ≡ true → f j ≡ true → i ≡ j) → count_below f n ≤ 1
+  unfolding count_below
+  below_one zero h = omega arith
+  below_one (suc n) h =
+      cases (f n)
+      (λ t.
+      let z = below_zero n (λ k l. cases (f k) (λ u. absurd (let e = h k n (omega arith) (omega arith) u t in omega arith)) (λ u. u)) in
+      rw (z, t) (omega arith))
+      (λ u. let r = below_one n (λ i j a b. h i j (omega arith) (omega arith)) in rw u (omega arith))
+
+  pub below_two : (n i j : ℕ) → i < j → j < n → f i ≡ true → f j ≡ true → 2 ≤ count_below f n
+  below_two n i j h g a b =
+      let s = below_some j i h a in
+      let m = rw b at (below_next j) in
+      let u = below_up (j + 1) n (omega arith) in
+      omega arith
+
+pub ruleset count_laws = (below_none, below_next)
