@@ -17,7 +17,8 @@ use Rattle.answers.specs.declared.Outcome.TheVariants.{Passed, Refused}
 use Rattle.answers.specs.Checks.{first, run, Decides}
 use Rattle.answers.proofs.Laws.{none, first_past, first_stops}
 use Rattle.answers.proofs.Loops.{Remaining, remaining-start, remaining-step, remaining-stop, remaining-none}
-use Rattle.packing.specs.Starts.{records_of, reaches, first_reaching, table_starts}
+use Rattle.schema.specs.Records.{records_of}
+use Rattle.packing.specs.Starts.{reaches, first_reaching, table_starts}
 use Rattle.packing.proofs.TableStarts.{starts-at, records-few}
 use Rattle.checks.specs.Image.{Image}
 use Rattle.scope_checks.specs.Links.{links, parents}

@@ -8,7 +8,7 @@ use native.Mathlib.Omega.{arith}
 use lib.ListN.{length, take, drop, length-drop}
 use lib.Seq.{length-take-le}
 use Rattle.schema.specs.Rows.{Whole}
-use Rattle.packing.specs.Starts.{records_of}
+use Rattle.schema.specs.Records.{records_of}
 use Rattle.packing.proofs.TableStarts.{records-inside}
 use Rattle.federate.specs.Records.{is_of, enclave_from, enclave_end, enclave_pack}
 

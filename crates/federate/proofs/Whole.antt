@@ -13,7 +13,7 @@ use Rattle.schema.specs.declared.rows.FederateImage.{FederateImage}
 use Rattle.schema.specs.Rows.{federate_at}
 use Rattle.packing.specs.declared.PackKind.TheVariants.{Federate}
 use Rattle.packing.specs.Packing.{packing_checks}
-use Rattle.packing.specs.Starts.{records_of}
+use Rattle.schema.specs.Records.{records_of}
 use Rattle.enclave.specs.declared.EnclaveAnswer.{EnclaveAnswer}
 use Rattle.enclave.specs.declared.EnclaveAnswer.TheVariants as answer
 use Rattle.enclave.specs.Answer.{answer_of}

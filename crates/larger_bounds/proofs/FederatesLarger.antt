@@ -10,7 +10,7 @@ use Rattle.answers.specs.Checks.{first}
 use Rattle.answers.specs.Slots.{SlotRefusal}
 use Rattle.answers.proofs.Looser.{Looser, done, looser-same, looser-append, looser-run, looser-stays}
 use Rattle.schema.specs.Rows.{byte_of, federate_at}
-use Rattle.packing.specs.Starts.{records_of}
+use Rattle.schema.specs.Records.{records_of}
 use Rattle.scope_checks.specs.Links.{links}
 use Rattle.enclave.specs.Passes.{enclave_checks}
 use Rattle.federate.specs.Records.{is_of, enclaves_of}

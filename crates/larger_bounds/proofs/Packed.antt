@@ -10,7 +10,7 @@ use lib.ListN.{length, get_or-eq_default}
 use borrow.Author.Tests.{ltb-false, eqb-true}
 use Rattle.schema.specs.Rows.{byte_of}
 use Rattle.packing.specs.declared.PackKind.TheVariants.{Enclave, Federate}
-use Rattle.packing.specs.Starts.{records_of}
+use Rattle.schema.specs.Records.{records_of}
 use Rattle.packing.proofs.Packed.{fits, placed-at, rows_above}
 use Rattle.larger_bounds.specs.Packs.{Packed}
 use Rattle.larger_bounds.specs.Federates.{FederatePacked}

@@ -10,7 +10,7 @@ use lib.ListN.{length, get_or, drop, length-take, get_or-eq_default}
 use lib.Seq.{get_or-take, get_or-drop}
 use borrow.Author.Tests.{eq-eqb}
 use Rattle.schema.specs.Rows.{byte_of, enclave_at}
-use Rattle.packing.specs.Starts.{records_of}
+use Rattle.schema.specs.Records.{records_of}
 use Rattle.federate.specs.Records.{is_of, enclave_from, enclave_end, enclave_pack}
 use Rattle.larger_bounds.specs.Packs.{state_bound, action_bound}
 use Rattle.larger_bounds.proofs.Tests.{cases}

@@ -11,7 +11,7 @@ use Rattle.identity.specs.declared.IdentityPlace.{IdentityPlace}
 use Rattle.schema.specs.declared.rows.RouteImage.{RouteImage}
 use Rattle.schema.specs.Layout as layout
 use Rattle.schema.specs.Rows.{byte_of, federate_of, route_of, federate_at, route_at}
-use Rattle.packing.specs.Starts.{records_of}
+use Rattle.schema.specs.Records.{records_of}
 use Rattle.federate.specs.declared.route_pairs.Half.{Half}
 use Rattle.federate.specs.Records.{is_of, count_below, enclaves_before, enclaves_of, enclave_before, enclave_from, enclave_end, enclave_pack}
 use Rattle.federate.specs.RoutePairs.{half_at, halves, pair_checks, route_record_checks}

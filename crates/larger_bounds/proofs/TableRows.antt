@@ -9,7 +9,8 @@ use lib.Dec.{ltb}
 use lib.ListN.{length}
 use borrow.Author.Tests.{ltb-true, ltb-false, leb-true, leb-false, not-false, lt-ltb, le-ltb}
 use Rattle.schema.specs.Rows.{byte_of}
-use Rattle.packing.specs.Starts.{records_of, reaches, first_reaching, table_starts}
+use Rattle.schema.specs.Records.{records_of}
+use Rattle.packing.specs.Starts.{reaches, first_reaching, table_starts}
 use Rattle.packing.proofs.TableStarts.{starts-at, starts_from}
 use Rattle.packing.proofs.Packed.{rows_above, rise}
 use Rattle.checks.specs.Image.{start_of, rows_of}

@@ -14,9 +14,10 @@ use Rattle.schema.specs.Rows.{byte_of}
 use Rattle.schema.specs.Tables.{start_of}
 use Rattle.packing.specs.declared.PackKind.TheVariants.{Enclave}
 use Rattle.packing.specs.Packing.{packing_checks}
-use Rattle.packing.specs.Starts.{records_of, reaches, first_reaching, table_starts}
+use Rattle.schema.specs.Records.{records_of}
+use Rattle.packing.specs.Starts.{reaches, first_reaching, table_starts}
 use Rattle.packing.specs.TableRows.{IsRow, RowsByByte}
-use Rattle.packing.proofs.TableStarts.{not-reached, all_records, starts-at, starts_from, starts-within, some_record}
+use Rattle.packing.proofs.TableStarts.{not-reached, starts-at, starts_from, starts-within, some_record}
 use Rattle.packing.proofs.Packed.{fits, rows_above, rise}
 
 module _ (p : List ℕ) (t : ℕ) where
@@ -38,9 +39,6 @@ module _ (p batch house : List ℕ) (h : first (packing_checks Enclave p batch h
   abbrev start : ℕ → ℕ
   start t = start_of (table_starts p 1) t
 
-  all : records_of p ≡ length p / 64
-  all = all_records p (fits Enclave p batch house h).few
-
   some : 1 ≤ records_of p
   some = let f = fits Enclave p batch house h in some_record p f.some f.whole
 
@@ -51,7 +49,6 @@ module _ (p batch house : List ℕ) (h : first (packing_checks Enclave p batch h
   -- a record from table t's start on is of table t or a later one; one before that start is not
   from_start : (t n : ℕ) → t < 26 → start t ≤ n → n < length p / 64 → t ≤ byte_of p n 0
   from_start t n k l u =
-      let r = all in
       let e = starts-at p 1 t k in
       let f = starts_from p 1 t k in
       let low = row_table (start t) f (omega arith) in
@@ -65,7 +62,6 @@ module _ (p batch house : List ℕ) (h : first (packing_checks Enclave p batch h
 
   row_is : (t n : ℕ) → t < 25 → IsRow p t n → (1 ≤ n) × (n < length p / 64) × (byte_of p n 0 ≡ t)
   row_is t n k r =
-      let e = all in
       let f = starts_from p 1 t (omega arith) in
       let w = starts-within p 1 (t + 1) (omega arith) some in
       let l : (1 ≤ n) × (n < length p / 64) = (omega (arith, r.0), omega (arith, r.1)) in

@@ -12,33 +12,17 @@ use borrow.Author.Tests.{ltb-true, ltb-false, leb-false, lt-leb}
 use Rattle.identity.proofs.Tests.{cases}
 use Rattle.schema.specs.Rows.{byte_of}
 use Rattle.schema.specs.Tables.{IsRising, EndsInside}
-use Rattle.packing.specs.Starts.{records_of, reaches, first_reaching, table_start, starts_below, table_starts}
+use Rattle.schema.specs.Records.{records_of}
+use Rattle.packing.specs.Starts.{reaches, first_reaching, table_start, starts_below, table_starts}
 
 reaching : (a b : Bool) (d e : ℕ) → not a || (b || leb d e) ≡ false → (a ≡ true) × (e < d)
 reaching true true d e h = absurd (true≢false h)
 reaching true false d e h = (refl, leb-false d e h)
 reaching false b d e h = absurd (true≢false h)
 
--- how many records are looked at
-least : (n m : ℕ) → (cond (ltb n m) n m ≤ n) × (cond (ltb n m) n m ≤ m)
-least n m =
-    cases (ltb n m)
-    (λ b. let h = ltb-true n m b in rw b (omega arith, omega arith))
-    (λ b. let h = ltb-false n m b in rw b (h, omega arith))
-
 module _ (p : List ℕ) where
-  pub records-few : records_of p ≤ 65536
-  records-few = (least (length p / 64) 65536).1
-
-  pub records-inside : records_of p ≤ length p / 64
-  records-inside = (least (length p / 64) 65536).0
-
-  -- in a pack within the limit, all of them
-  pub all_records : length p ≤ 4194304 → records_of p ≡ length p / 64
-  all_records l =
-      cases (ltb (length p / 64) 65536)
-      (λ b. rw b)
-      (λ b. let h = ltb-false (length p / 64) 65536 b in rw b (omega arith))
+  pub records_few : length p ≤ 4194304 → records_of p ≤ 65536
+  records_few l = omega arith
 
   -- a record that does not reach table t lies inside and is of an earlier one
   pub not-reached : (t k : ℕ) → reaches p t k ≡ false → (k < records_of p) × (byte_of p k 0 < t)
@@ -179,17 +163,17 @@ filled_all p s t k f h l =
     let e : t ≡ 26 = omega arith in
     sym (take_all 26 s (omega arith)) ∙ (rw e at f.done)
 
-pub filled_few : (p s : List ℕ) (t k : ℕ) → Filled p s t k → k ≤ 65536
-filled_few p s t k f = let a = f.within in let b = records-few p in omega arith
+pub filled_few : (p s : List ℕ) (t k : ℕ) → Filled p s t k → length p ≤ 4194304 → k ≤ 65536
+filled_few p s t k f l = let a = f.within in let b = records_few p l in omega arith
 
 pub filled_within : (p s : List ℕ) (t k : ℕ) → Filled p s t k → k ≤ records_of p
 filled_within p s t k f = f.within
 
 -- a pack with a record has one that is looked at
 pub some_record : (p : List ℕ) → 0 < length p → length p % 64 ≡ 0 → 1 ≤ records_of p
-some_record p h w = cases (ltb (length p / 64) 65536) (λ b. rw b (omega arith)) (λ b. rw b (omega arith))
+some_record p h w = omega arith
 
-pub ruleset start_laws = (filled_none, filled_next, filled_all, filled_few, filled_within, some_record, search_within, records-few)
+pub ruleset start_laws = (filled_none, filled_next, filled_all, filled_few, filled_within, some_record, search_within, records_few)
 
 -- an enclave's tables rise, and end inside its pack
 pub starts_rising : (p s : List ℕ) → s ≡ table_starts p 1 → IsRising s
@@ -198,7 +182,6 @@ starts_rising p s e t h = rw e (starts-rise p 1 t (t + 1) (omega arith) (omega a
 pub starts_inside : (p s : List ℕ) → s ≡ table_starts p 1 → 0 < length p → length p % 64 ≡ 0 → EndsInside p s
 starts_inside p s e h w =
     let a = starts-within p 1 25 (omega arith) (some_record p h w) in
-    let b = records-inside p in
     rw e (omega arith)
 
 pub ruleset enclave_laws = (starts_rising, starts_inside)

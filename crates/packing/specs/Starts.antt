@@ -1,10 +1,7 @@
 -- Where each table of an enclave begins. Assumes nothing.
-use Rattle.std.specs.Prelude.{ℕ, zero, suc, ◌+◌, ◌/◌, Bool, not, ◌||◌, cond, List, [], ◌∷◌, ◌++◌, ltb, leb, length}
+use Rattle.std.specs.Prelude.{ℕ, zero, suc, ◌+◌, Bool, not, ◌||◌, cond, List, [], ◌∷◌, ◌++◌, ltb, leb}
 use Rattle.schema.specs.Rows.{byte_of}
-
--- the records of a pack, at most as many as the pack's limit has
-abbrev pub records_of : List ℕ → ℕ
-records_of p = cond (ltb (length p / 64) 65536) (length p / 64) 65536
+use Rattle.schema.specs.Records.{records_of}
 
 -- record k is table t's first in its enclave, or past it: of table t or a later one, or of another enclave, or past the pack
 abbrev pub reaches : List ℕ → ℕ → ℕ → Bool

@@ -1,11 +1,11 @@
 // Where each table of an enclave begins, in one pass over its records.
 ghost use Rattle.std.specs.Prelude.{◌≡◌, ◌≤◌};
-ghost use Rattle.packing.specs.Starts.{records_of, reaches, first_reaching, table_starts};
+ghost use Rattle.schema.specs.Records.{records_of};
+ghost use Rattle.packing.specs.Starts.{reaches, first_reaching, table_starts};
 
 use schema::lent::{Enclave, Pack, TABLES, TableStarts};
 
 // Whether record k is table t's first in its enclave, or past it.
-#[tactic(auto, using(crate::proofs::TableStarts::all_records))]
 fn reaches(pack: Pack, t: usize, k: usize) -> bool
     ensures { result ≡ reaches pack.entry.bytes.now t k }
 {

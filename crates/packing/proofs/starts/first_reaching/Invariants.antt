@@ -1,6 +1,7 @@
 -- The search from record k finds the same.
 use Rattle.std.proofs.Common.{◌≡◌, ◌-◌, ◌≤◌}
-use Rattle.packing.specs.Starts.{records_of, first_reaching}
+use Rattle.schema.specs.Records.{records_of}
+use Rattle.packing.specs.Starts.{first_reaching}
 use Rattle.packing.proofs.starts.first_reaching.Given as goal
 
 abbrev pub invariant-loop-k : goal.invariant-loop-k
