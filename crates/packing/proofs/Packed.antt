@@ -18,7 +18,7 @@ use Rattle.packing.specs.declared.PackKind.TheVariants.{Enclave}
 use Rattle.packing.specs.Packing.{first_table, table_after, in_place, record_checks, packing_checks}
 use Rattle.identity.proofs.Tests.{both}
 
--- record n after another
+-- the first record's place, and the place of one after another
 pub place_first : (kind : PackKind) (p : List ℕ) (n : ℕ) → n ≡ 0 → in_place kind p n ≡ eqb (byte_of p n 0) (first_table kind)
 place_first kind p n e = rw e
 
