@@ -1,43 +1,35 @@
--- Where the enclave of a record ends. Assumes nothing.
-use Prim.Native.Nat.{ℕ, zero, suc, ◌+◌, ◌-◌, ◌*◌, ◌/◌, ◌<◌, ◌≤◌}
-use mathlib.Core.Bool.{Bool, true, false, cond}
-use mathlib.Core.Path.{◌≡◌, refl, ◌∙◌, ap, sym}
-use mathlib.Core.List.{List}
-use native.Mathlib.Numerals.{add-one}
-use native.Mathlib.Omega.{arith}
-use lib.ListN.{length, take, drop, length-drop}
-use lib.Seq.{length-take-le}
-use Rattle.schema.specs.Rows.{Whole}
-use Rattle.schema.specs.Records.{records_of}
-use Rattle.packing.proofs.TableStarts.{records-inside}
-use Rattle.federate.specs.Records.{is_of, enclave_from, enclave_end, enclave_pack}
+-- Where the enclave of a record ends, its pack, and how many there are. Assumes nothing.
+use Rattle.std.proofs.Common.{ℕ, zero, suc, ◌+◌, ◌-◌, ◌*◌, ◌/◌, ◌%◌, ◌<◌, ◌≤◌, Bool, true, false, cond, ◌≡◌, refl, ◌∙◌, ap, sym, List, length, take, drop, length-drop, add-one, arith}
+use Rattle.std.proofs.Math.Seq.{length-take-le}
+use Rattle.schema.specs.Records.{records_of, is_of, count_below}
+use Rattle.federate.specs.Records.{enclaves_of, enclave_from, enclave_end, enclave_pack}
 
--- no record from n + 1 up to `end` is an enclave's
-pub record Looked (p : List ℕ) (n end : ℕ) : Type 0 where
-  pub within : end ≤ records_of p
-  pub above : suc n ≤ end
-  pub same : enclave_end p n ≡ enclave_from p end (records_of p - end)
+-- counting
+pub count_none : (f : ℕ → Bool) → count_below f 0 ≡ 0
+unfolding count_below
+count_none f = refl
 
-pub looked-start : (p : List ℕ) (n : ℕ) → n < records_of p → Looked p n (n + 1)
-looked-start p n h = record { within = omega arith; above = omega arith; same = rw (add-one n) }
+pub count_next : (f : ℕ → Bool) (n : ℕ) → count_below f (n + 1) ≡ count_below f n + cond (f n) 1 0
+unfolding count_below
+count_next f n = rw add-one refl
 
-module _ {p : List ℕ} {n end : ℕ} (l : Looked p n end) where
-  more : end < records_of p → records_of p - end ≡ suc (records_of p - (end + 1))
-  more h = omega arith
+pub ruleset count_laws = (count_none, count_next)
 
-  pub looked-none : end < records_of p → false ≡ is_of p 1 end → Looked p n (end + 1)
+-- looking for the next enclave's record
+module _ (p : List ℕ) (n : ℕ) where
+  pub from_next : n < records_of p → is_of p 1 n ≡ false → enclave_from p n (records_of p - n) ≡ enclave_from p (n + 1) (records_of p - (n + 1))
   unfolding enclave_from
-  looked-none h e =
-      let a = l.above in
-      record { within = omega arith; above = omega arith; same = rw (more h, ← e) at l.same ∙ rw (add-one end) }
+  from_next h e = let k : records_of p - n ≡ suc (records_of p - (n + 1)) = omega arith in rw (k, e, add-one) refl
 
-  pub looked-found : end < records_of p → true ≡ is_of p 1 end → end ≡ enclave_end p n
+  pub from_found : n < records_of p → is_of p 1 n ≡ true → enclave_from p n (records_of p - n) ≡ n
   unfolding enclave_from
-  looked-found h e = sym (rw (more h, ← e) at l.same)
+  from_found h e = let k : records_of p - n ≡ suc (records_of p - (n + 1)) = omega arith in rw (k, e) refl
 
-  pub looked-all : records_of p ≤ end → end ≡ enclave_end p n
+  pub from_over : records_of p ≤ n → enclave_from p n (records_of p - n) ≡ n
   unfolding enclave_from
-  looked-all h = let z : records_of p - end ≡ 0 = omega arith in sym (rw z at l.same)
+  from_over h = let k : records_of p - n ≡ 0 = omega arith in rw k refl
+
+pub ruleset from_laws = (from_next, from_found, from_over)
 
 -- it ends after its own record, and inside the pack
 either : (b : Bool) (k n m : ℕ) → (suc n ≤ m) × (m ≤ suc n + k) → (n ≤ cond b n m) × (cond b n m ≤ n + suc k)
@@ -57,28 +49,37 @@ end-within p n l =
     (omega arith, omega arith)
 
 -- so its bytes are a part of the pack
-pub part-inside : (p : List ℕ) {n end : ℕ} → n < records_of p → end ≡ enclave_end p n → (n * 64 ≤ end * 64) × (end * 64 ≤ length p)
-part-inside p {n} {end} l e =
-    let h = end-within p n l in
-    let a = h.0 in
-    let b = h.1 in
-    let c = records-inside p in
-    (omega arith, omega arith)
+module _ (p : List ℕ) (n end : ℕ) (l : n < records_of p) (e : end ≡ enclave_end p n) where
+  pub part_start : n * 64 ≤ end * 64
+  part_start = let a = (end-within p n l).0 in omega arith
 
-pub part-is : (p : List ℕ) (n : ℕ) {end : ℕ} → end ≡ enclave_end p n → take (end * 64 - n * 64) (drop (n * 64) p) ≡ enclave_pack p n
-part-is p n {end} e =
-    let q : end * 64 - n * 64 ≡ (enclave_end p n - n) * 64 = omega arith in
-    ap (λ (k : ℕ). take k (drop (n * 64) p)) q
+  pub part_end : end * 64 ≤ length p
+  part_end = let a = (end-within p n l).1 in omega arith
+
+  pub part_is : take (end * 64 - n * 64) (drop (n * 64) p) ≡ enclave_pack p n
+  part_is =
+      let q : end * 64 - n * 64 ≡ (enclave_end p n - n) * 64 = omega arith in
+      ap (λ (k : ℕ). take k (drop (n * 64) p)) q
 
 -- of whole records, its own at least
-part_length : (p : List ℕ) (n : ℕ) → n < records_of p → length (enclave_pack p n) ≡ (enclave_end p n - n) * 64
-part_length p n l =
-    let h = part-inside p l refl in
-    let k : (enclave_end p n - n) * 64 ≤ length (drop (n * 64) p) = simp length-drop (omega (arith, h.0, h.1)) in
+pub part-length : (p : List ℕ) (n : ℕ) → n < records_of p → length (enclave_pack p n) ≡ (enclave_end p n - n) * 64
+part-length p n l =
+    let a = part_start p n (enclave_end p n) l refl in
+    let b = part_end p n (enclave_end p n) l refl in
+    let k : (enclave_end p n - n) * 64 ≤ length (drop (n * 64) p) = simp length-drop (omega arith) in
     length-take-le ((enclave_end p n - n) * 64) (drop (n * 64) p) k
 
-pub part-whole : (p : List ℕ) (n : ℕ) → n < records_of p → Whole (enclave_pack p n)
-part-whole p n l = rw (part_length p n l) (omega arith)
+pub part_whole : (p : List ℕ) (n end : ℕ) → n < records_of p → end ≡ enclave_end p n → length (take (end * 64 - n * 64) (drop (n * 64) p)) % 64 ≡ 0
+part_whole p n end l e = rw (part_is p n end l e, part-length p n l) (omega arith)
 
-pub part-some : (p : List ℕ) (n : ℕ) → n < records_of p → 0 < length (enclave_pack p n) / 64
-part-some p n l = let h = (end-within p n l).0 in rw (part_length p n l) (omega arith)
+pub part_some : (p : List ℕ) (n end : ℕ) → n < records_of p → end ≡ enclave_end p n → 0 < length (take (end * 64 - n * 64) (drop (n * 64) p))
+part_some p n end l e =
+    let a = (end-within p n l).0 in
+    rw (part_is p n end l e, part-length p n l) (omega arith)
+
+pub part_limited : (p : List ℕ) (n end : ℕ) → n < records_of p → end ≡ enclave_end p n → length p ≤ 4194304 → length (take (end * 64 - n * 64) (drop (n * 64) p)) ≤ 4194304
+part_limited p n end l e h =
+    let a = (end-within p n l).1 in
+    rw (part_is p n end l e, part-length p n l) (omega arith)
+
+pub ruleset part_laws = (part_start, part_end, part_is, part_whole, part_some, part_limited)

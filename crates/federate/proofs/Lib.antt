@@ -1,4 +1,3 @@
-pub mod Counts
 pub mod Ends
 pub mod EnclaveLaws
 pub mod Whole

@@ -28,7 +28,9 @@ refused_by (Refused r) = answer.Refused r
 abbrev pub federate_links : List ℕ → List ℕ → List ℕ → ℕ
 federate_links p batch house = links_before p batch house (records_of p)
 
--- the answer for a pack: packing first
+-- the answer for a pack that is packed, and for any: packing first
+unfoldable pub packed_answer : List ℕ → List ℕ → List ℕ → List ℕ
+packed_answer p batch house = unless (first (federate_checks p batch house)) (0 ∷ enclaves_of p ∷ federate_links p batch house ∷ [])
+
 unfoldable pub federate_answer : List ℕ → List ℕ → List ℕ → List ℕ
-federate_answer p batch house =
-    unless (first (packing_checks Federate p batch house)) (unless (first (federate_checks p batch house)) (0 ∷ enclaves_of p ∷ federate_links p batch house ∷ []))
+federate_answer p batch house = unless (first (packing_checks Federate p batch house)) (packed_answer p batch house)

@@ -1,14 +1,12 @@
-#![tactic(auto)]
-use answers::{Refusal};
 // The federate check: its own record, each enclave in turn, then the routes of all enclaves; the first check that fails decides.
-pub mod check;
-pub mod enclaves;
-pub mod metadata;
-pub mod records;
-pub mod route_faults;
-pub mod route_pairs;
-pub mod route_sort;
+#![tactic(auto)]
 
+pub mod check;
+mod enclaves;
+mod metadata;
+mod records;
+
+use answers::Refusal;
 
 // What the check of a federate answers.
 #[derive(Clone, Copy)]
