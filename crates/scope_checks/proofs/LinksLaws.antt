@@ -27,35 +27,36 @@ below-within parent n (suc k) =
     let b = followed-within parent n (parent k) in
     rw suc-mul (omega arith)
 
--- no parent, no link more
-pub followed_none : (parent : ℕ → MaybeScope) (k : ℕ) (r : MaybeScope) → r ≡ NoScope → followed parent k r ≡ 0
-unfolding followed
-followed_none parent zero r e = refl
-followed_none parent (suc k) r e = rw e refl
+module _ (parent : ℕ → MaybeScope) where
+  -- no parent, no link more
+  pub followed_none : (k : ℕ) (r : MaybeScope) → r ≡ NoScope → followed parent k r ≡ 0
+  unfolding followed
+  followed_none zero r e = refl
+  followed_none (suc k) r e = rw e refl
 
--- after k of n links, the link to a parent and those from there on
-pub followed_next : (parent : ℕ → MaybeScope) (n k : ℕ) (s : ScopeIndex) → k < n → followed parent (n - k) (Scope s) ≡ followed parent (n - (k + 1)) (parent s.0) + 1
-unfolding followed
-followed_next parent n k s h = let m : n - k ≡ suc (n - (k + 1)) = omega arith in rw m (omega arith)
+  -- after k of n links, the link to a parent and those from there on
+  pub followed_next : (n k : ℕ) (s : ScopeIndex) → k < n → followed parent (n - k) (Scope s) ≡ followed parent (n - (k + 1)) (parent s.0) + 1
+  unfolding followed
+  followed_next n k s h = let m : n - k ≡ suc (n - (k + 1)) = omega arith in rw m (omega arith)
 
--- with k of n links behind, those that are left are followed up to n - k of them
-followed_least : (parent : ℕ → MaybeScope) (k n : ℕ) (r : MaybeScope) → k ≤ n → followed parent k r ≡ min k (followed parent n r)
-unfolding followed
-followed_least parent zero n r h = omega arith
-followed_least parent (suc k) zero r h = omega arith
-followed_least parent (suc k) (suc n) NoScope h = omega arith
-followed_least parent (suc k) (suc n) (Scope s) h =
-    let e = followed_least parent k n (parent s.0) (omega arith) in omega arith
+  -- with k of n links behind, those that are left are followed up to n - k of them
+  followed_least : (k n : ℕ) (r : MaybeScope) → k ≤ n → followed parent k r ≡ min k (followed parent n r)
+  unfolding followed
+  followed_least zero n r h = omega arith
+  followed_least (suc k) zero r h = omega arith
+  followed_least (suc k) (suc n) NoScope h = omega arith
+  followed_least (suc k) (suc n) (Scope s) h =
+      let e = followed_least k n (parent s.0) (omega arith) in omega arith
 
-pub followed_cut : (parent : ℕ → MaybeScope) (n k : ℕ) (r : MaybeScope) → followed parent (n - k) r ≡ min (n - k) (followed parent n r)
-followed_cut parent n k r = followed_least parent (n - k) n r (omega arith)
+  pub followed_cut : (n k : ℕ) (r : MaybeScope) → followed parent (n - k) r ≡ min (n - k) (followed parent n r)
+  followed_cut n k r = followed_least (n - k) n r (omega arith)
 
--- fewer links than n from a scope: its parent has one less
-pub followed_above : (parent : ℕ → MaybeScope) (n : ℕ) (s : ScopeIndex) → followed parent n (Scope s) < n → followed parent n (Scope s) ≡ followed parent n (parent s.0) + 1
-unfolding followed
-followed_above parent zero s h = absurd (omega arith)
-followed_above parent (suc n) s h =
-    let e = followed_least parent n (suc n) (parent s.0) (omega arith) in omega arith
+  -- fewer links than n from a scope: its parent has one less
+  pub followed_above : (n : ℕ) (s : ScopeIndex) → followed parent n (Scope s) < n → followed parent n (Scope s) ≡ followed parent n (parent s.0) + 1
+  unfolding followed
+  followed_above zero s h = absurd (omega arith)
+  followed_above (suc n) s h =
+      let e = followed_least n (suc n) (parent s.0) (omega arith) in omega arith
 
 pub ruleset followed_laws = (followed_none, followed_next, followed_cut, followed_above)
 

@@ -13,11 +13,11 @@ use schema::index::{MaybeScope, ScopeIndex};
 use schema::lent::Enclave;
 use schema::rows::ScopeImage;
 
-// Fewer scopes than this have short walks: no depth is remembered, and there is no array to clear.
-const FEW: u32 = 64;
-// Depths for most images: 16 KiB of stack.
+// Room for the depths of few scopes, of many, and of as many as a pack has records: 256 bytes, 16 KiB and 256 KiB of stack.
+const FEW: usize = 64;
+
 const MANY: usize = 4096;
-// Depths for as many scopes as a pack has records: 256 KiB of stack.
+
 const MOST: usize = 65536;
 
 // The links of all scopes, or the first cycle.
@@ -110,11 +110,11 @@ fn follow_with<const N: usize>(e: Enclave) -> Parents
 pub fn check_parents(e: Enclave) -> Parents
     ensures { let m = image_of e.entry in result ≡ parents_answer (first (run (cycle_checks m) 0 (m.rows 7))) (links m) }
 {
-    let scopes = e.rows(ScopeImage::TABLE);
-    if scopes < FEW {
-        return follow_with::<0>(e);
+    let scopes = e.rows(ScopeImage::TABLE) as usize;
+    if scopes <= FEW {
+        return follow_with::<FEW>(e);
     }
-    if scopes as usize <= MANY {
+    if scopes <= MANY {
         return follow_with::<MANY>(e);
     }
     follow_with::<MOST>(e)
