@@ -22,7 +22,7 @@ span_check f =
     need (end_within (checked_end span.start span.len) (2 ^ 32)) (RangeOutOfBounds 0 0 field.enclaves 255 span.start span.len)
 
 -- id, target, runtime, span
-abbrev pub metadata_checks : (IdentityPlace → List ℕ) → FederateImage → List Check
+unfoldable pub metadata_checks : (IdentityPlace → List ℕ) → FederateImage → List Check
 metadata_checks text f =
     id_check text field.kind_federate 0 f.id
     ∷ id_check text field.kind_target 0 f.target

@@ -47,6 +47,7 @@ fn check_span(federate: FederateImage) -> Outcome
 }
 
 // Id, target, runtime, span.
+#[tactic(auto, unfolding(answers::specs::Checks::first, crate::specs::Federate::metadata_checks))]
 pub fn validate_federate_metadata(batch: &[u8], house: &[u8], federate: FederateImage) -> Outcome
     ensures { result ≡ first (metadata_checks (identity_text batch.now house.now) federate) }
 {

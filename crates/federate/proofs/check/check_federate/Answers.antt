@@ -1,16 +1,13 @@
-use Rattle.std.proofs.Common.{rules, ◌≡◌, [], ◌∷◌, ◌++◌, ℕ, ◌+◌, ◌-◌, ◌*◌, ◌<◌, ◌≤◌, length, ◌/◌, ◌%◌, Bool, true, false, nat_eq, nat_lt, List, slice_index_or, slice_set, bit_and, bit_or, Fits, w8, w32, w64, Bor, MutBor}
-use Rattle.answers.specs.Checks.{first}
-use Rattle.identity.specs.Text.{identity_text}
-use Rattle.schema.specs.Rows.{federate_at}
-use Rattle.federate.specs.Records.{enclaves_of}
-use Rattle.federate.specs.Federate.{metadata_checks, count_check}
-use Rattle.federate.specs.Answer.{refused_by, federate_numbers, packed_answer, federate_answer}
+-- A pack that is packed, and one that is not.
+use Rattle.std.proofs.Common.{List, ℕ, ap, ◌∙◌}
+use Rattle.federate.specs.Answer.{federate_numbers, packed_answer}
+use Rattle.federate.proofs.Whole.{packing_refused, is_packed}
 use Rattle.federate.proofs.check.check_federate.Goals as goal
 
--- src/check.rt:69:1
 pub returns-in-Pack : goal.returns-in-Pack
-returns-in-Pack c = ?
+returns-in-Pack c =
+    is_packed c.args.pack.now c.args.batch.now c.args.house.now (federate_numbers c.check_packed.result) c.in-Pack.ensures.outcome
+    (c.check_packed.ensures ∙ ap (λ (p : List ℕ). packed_answer p c.args.batch.now c.args.house.now) c.in-Pack.ensures.lent)
 
--- src/check.rt:69:1
 pub returns-in-Refused : goal.returns-in-Refused
-returns-in-Refused c = ?
+returns-in-Refused c = packing_refused c.args.pack.now c.args.batch.now c.args.house.now c.in-Refused.r c.in-Refused.ensures.outcome

@@ -1,24 +1,28 @@
-use Rattle.std.proofs.Common.{rules, ◌≡◌, [], ◌∷◌, ◌++◌, ℕ, ◌+◌, ◌-◌, ◌*◌, ◌<◌, ◌≤◌, length, ◌/◌, ◌%◌, Bool, true, false, nat_eq, nat_lt, List, slice_index_or, slice_set, bit_and, bit_or, Fits, w8, w32, w64, Bor, MutBor}
-use Rattle.answers.specs.Checks.{first}
-use Rattle.identity.specs.Text.{identity_text}
-use Rattle.schema.specs.Rows.{federate_at}
-use Rattle.federate.specs.Records.{enclaves_of}
-use Rattle.federate.specs.Federate.{metadata_checks, count_check}
-use Rattle.federate.specs.Answer.{refused_by, federate_numbers, packed_answer, federate_answer}
+-- Each place where the checks of a packed federate can stop, by its law.
+use Rattle.std.proofs.Common.{ap, ◌∙◌}
+use Rattle.federate.specs.Answer.{federate_numbers}
+use Rattle.federate.proofs.Whole.{own_refused, enclaves_refused, routes_refused, accepted}
 use Rattle.federate.proofs.check.check_packed.Goals as goal
 
--- src/check.rt:55:9
 pub returns-in_default : goal.returns-in_default
-returns-in_default c = ?
+returns-in_default c =
+    ap federate_numbers c.refused.ensures
+    ∙ own_refused c.args.pack.bytes.now c.args.batch.now c.args.house.now c.at-federate.result c.at-federate.ensures c.count_enclaves-enclaves.result c.count_enclaves-enclaves.ensures
+    c.check_own_record-own.result c.check_own_record-own.ensures c.in_default.not-Passed
 
--- src/check.rt:59:38
 pub returns-in-Refused : goal.returns-in-Refused
-returns-in-Refused c = ?
+returns-in-Refused c =
+    enclaves_refused c.args.pack.bytes.now c.args.batch.now c.args.house.now c.at-federate.result c.at-federate.ensures c.count_enclaves-enclaves.result c.count_enclaves-enclaves.ensures
+    c.in-Passed.ensures c.in-Refused.r c.in-Refused.ensures
 
--- src/check.rt:63:9
 pub returns-in_default-pairs : goal.returns-in_default-pairs
-returns-in_default-pairs c = ?
+returns-in_default-pairs c =
+    ap federate_numbers c.refused-in_default-pairs.ensures
+    ∙ routes_refused c.args.pack.bytes.now c.args.batch.now c.args.house.now c.at-federate.result c.at-federate.ensures c.count_enclaves-enclaves.result c.count_enclaves-enclaves.ensures
+    c.in-Passed.ensures c.in-Accepted.links c.in-Accepted.ensures
+    c.validate_federate_route_pairs-pairs.result c.validate_federate_route_pairs-pairs.ensures c.in_default-pairs.not-Passed
 
--- src/check.rt:48:1
 pub returns : goal.returns
-returns c = ?
+returns c =
+    accepted c.args.pack.bytes.now c.args.batch.now c.args.house.now c.at-federate.result c.at-federate.ensures c.count_enclaves-enclaves.result c.count_enclaves-enclaves.ensures
+    c.in-Passed.ensures c.in-Accepted.links c.in-Accepted.ensures c.in-Passed-pairs.ensures
