@@ -2,6 +2,7 @@
 ghost use Rattle.std.specs.Prelude.{◌≡◌};
 ghost use Rattle.answers.specs.Checks.{first, run};
 ghost use Rattle.checks.specs.Image.{image_of, route_part};
+ghost use Rattle.checks.specs.Lists.{after_first};
 ghost use Rattle.schema.specs.Tables.{rows_of};
 ghost use Rattle.list_checks.specs.Routes.{route_order_checks, route_row, route_checks, binding_id_row, binding_id_checks};
 
@@ -16,7 +17,7 @@ use schema::index::{BindingSlotIndex, RouteDirection};
 use schema::lent::Enclave;
 use schema::rows::{RequiredBindingImage, RouteImage};
 
-// A route against the one before it: boundaries rise, and of one boundary the inbound half comes first.
+// A route against the one before it, if there is one: boundaries rise, and of one boundary the inbound half comes first.
 #[tactic(auto, unfolding(answers::specs::Checks::first, crate::specs::Routes::route_order_checks))]
 fn check_route_order(
     i: u32,
@@ -25,8 +26,11 @@ fn check_route_order(
     previous: &[u8],
     previous_direction: RouteDirection,
 ) -> Outcome
-    ensures { result ≡ first (route_order_checks i route.boundary text.now route.direction previous.now previous_direction) }
+    ensures { result ≡ first (after_first i (route_order_checks i route.boundary text.now route.direction previous.now previous_direction)) }
 {
+    if i == 0 {
+        return Outcome::Passed;
+    }
     let boundary = route.boundary;
     match compare_bytes(text, previous) {
         ByteOrder::Less => Outcome::Refused(Refusal::StableIdsNotSorted {
@@ -67,12 +71,10 @@ fn check_route(
     let Outcome::Passed = valid else {
         return valid;
     };
-    if i != 0 {
-        let order = check_route_order(i, route, text, previous, previous_direction);
-        let Outcome::Passed = order else {
-            return order;
-        };
-    }
+    let order = check_route_order(i, route, text, previous, previous_direction);
+    let Outcome::Passed = order else {
+        return order;
+    };
     check_port_ref(e, RouteImage::TABLE, i, field::LOCAL_PORT, route.local_port).refused()
 }
 
