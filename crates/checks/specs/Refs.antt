@@ -1,5 +1,5 @@
 -- Table lengths, references, ranges and spans: the checks that rows' checks are made of (view.rs, `check_*`). Assumes nothing.
-use Rattle.std.specs.Prelude.{ℕ, ◌+◌, ◌-◌, ◌^◌, Bool, false, cond, List, [], ◌∷◌, ltb, leb, eqb}
+use Rattle.std.specs.Prelude.{ℕ, ◌-◌, ◌^◌, Bool, false, cond, List, [], ◌∷◌, ltb, leb, eqb}
 use Rattle.range.specs.declared.CheckedEnd.{CheckedEnd}
 use Rattle.range.specs.declared.CheckedEnd.TheVariants.{End, NoEnd}
 use Rattle.range.specs.declared.SliceRange.{SliceRange}

@@ -34,11 +34,11 @@ pub fn validate_text_order(
     index: u32,
     id: IdentityPlace,
     text: &[u8],
-    before: &[u8],
+    previous: &[u8],
 ) -> Outcome
-    ensures { result ≡ first (text_order_checks kind index id text.now before.now) }
+    ensures { result ≡ first (text_order_checks kind index id text.now previous.now) }
 {
-    match compare_bytes(text, before) {
+    match compare_bytes(text, previous) {
         ByteOrder::Less => Outcome::Refused(Refusal::StableIdsNotSorted { kind, index, id }),
         ByteOrder::Equal => Outcome::Refused(Refusal::DuplicateStableId { kind, index, id }),
         ByteOrder::Greater => Outcome::Passed,

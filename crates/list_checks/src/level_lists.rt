@@ -1,4 +1,6 @@
 // Lists of reactions by level: triggers, the lists of scopes, and every entry of their tables.
+#![tactic(auto, using(answers::proofs::Loops::run_laws))]
+
 ghost use Rattle.std.specs.Prelude.{◌≡◌, ◌<◌};
 ghost use Rattle.answers.specs.Checks.{first, run};
 ghost use Rattle.schema.specs.Tables.{tables};
@@ -49,7 +51,7 @@ pub fn check_port_triggers(e: Enclave) -> Outcome
 
 // The reset, startup and shutdown reactions of scope i.
 #[tactic(auto, using(answers::proofs::Laws::list_laws), unfolding(crate::specs::ListTables::scope_list_checks))]
-fn check_scope_list(e: Enclave, i: u32) -> Outcome
+fn check_lists_of_scope(e: Enclave, i: u32) -> Outcome
     ensures { result ≡ first (scope_list_checks (image_of e.entry) i) }
 {
     let scope = ScopeImage::row(e, ScopeIndex(i));
@@ -65,12 +67,11 @@ fn check_scope_list(e: Enclave, i: u32) -> Outcome
 }
 
 // The lists of every scope.
-#[tactic(auto, using(answers::proofs::Loops::run_laws))]
 pub fn check_scope_lists(e: Enclave) -> Outcome
     ensures { let m = image_of e.entry in result ≡ first (run (scope_list_checks m) 0 (m.rows 7)) }
 {
     for i in 0..e.rows(ScopeImage::TABLE) {
-        let outcome = check_scope_list(e, i);
+        let outcome = check_lists_of_scope(e, i);
         let Outcome::Passed = outcome else {
             return outcome;
         };
@@ -89,7 +90,6 @@ fn check_level_entry<const T: u8>(e: Enclave, i: u32) -> Outcome
 }
 
 // Every entry of table T, whether or not some range covers it.
-#[tactic(auto, using(answers::proofs::Loops::run_laws))]
 pub fn check_level_entries<const T: u8>(e: Enclave) -> Outcome
     requires { T < tables }
     ensures { let m = image_of e.entry in result ≡ first (run (level_entry_checks T m) 0 (m.rows T)) }
@@ -117,7 +117,7 @@ fn check_lifecycle_entry<const T: u8>(e: Enclave, i: u32) -> Outcome
     validate_level_ref(e, T, i, entry.reaction)
 }
 
-#[tactic(auto, using(answers::proofs::Loops::run_laws))]
+// Every entry of table T, in the same way.
 pub fn check_lifecycle_entries<const T: u8>(e: Enclave) -> Outcome
     requires { T < tables }
     ensures { let m = image_of e.entry in result ≡ first (run (lifecycle_entry_checks T m) 0 (m.rows T)) }
@@ -132,7 +132,6 @@ pub fn check_lifecycle_entries<const T: u8>(e: Enclave) -> Outcome
 }
 
 // The shutdown reactions: one list over the whole table.
-#[tactic(auto, using(answers::proofs::Loops::run_laws))]
 pub fn check_shutdown_reactions(e: Enclave) -> Outcome
     ensures { let m = image_of e.entry in result ≡ first (run (shutdown_reaction_checks m) 0 (m.rows 21)) }
 {

@@ -1,6 +1,9 @@
 // The list tables of one index or one startup, the enabled modes of reactions, and the shutdown actions.
+#![tactic(auto, using(answers::proofs::Loops::run_laws))]
+
 ghost use Rattle.std.specs.Prelude.{◌≡◌, ◌<◌};
 ghost use Rattle.answers.specs.Checks.{first, run};
+ghost use Rattle.answers.specs.Fields as fields;
 ghost use Rattle.schema.specs.Tables.{tables};
 ghost use Rattle.checks.specs.Image.{image_of};
 ghost use Rattle.list_checks.specs.ListTables.{index_checks, startup_checks, enabled_mode_checks, enabled_modes_checks, index_order_checks, shutdown_action_checks};
@@ -16,11 +19,11 @@ use schema::lists::{
 };
 use schema::rows::{ModeImage, ReactionImage};
 
-// Every entry of table T names a port that is there; and so for actions, modes and scopes.
+// Every entry of table T names a port that is there.
 #[tactic(auto, using(answers::proofs::Loops::run_laws), unfolding(answers::specs::Checks::first, crate::specs::ListTables::index_checks))]
 pub fn check_port_entries<const T: u8>(e: Enclave) -> Outcome
     requires { T < tables }
-    ensures { let m = image_of e.entry in result ≡ first (run (index_checks T 30 4 m) 0 (m.rows T)) }
+    ensures { let m = image_of e.entry in result ≡ first (run (index_checks T fields.port 4 m) 0 (m.rows T)) }
 {
     for i in 0..e.rows(T) {
         let entry = PortEntry::<T>::row(e, i as usize);
@@ -32,10 +35,11 @@ pub fn check_port_entries<const T: u8>(e: Enclave) -> Outcome
     Outcome::Passed
 }
 
+// Every entry of table T names an action that is there.
 #[tactic(auto, using(answers::proofs::Loops::run_laws), unfolding(answers::specs::Checks::first, crate::specs::ListTables::index_checks))]
 pub fn check_action_entries<const T: u8>(e: Enclave) -> Outcome
     requires { T < tables }
-    ensures { let m = image_of e.entry in result ≡ first (run (index_checks T 29 3 m) 0 (m.rows T)) }
+    ensures { let m = image_of e.entry in result ≡ first (run (index_checks T fields.action 3 m) 0 (m.rows T)) }
 {
     for i in 0..e.rows(T) {
         let entry = ActionEntry::<T>::row(e, i as usize);
@@ -47,10 +51,11 @@ pub fn check_action_entries<const T: u8>(e: Enclave) -> Outcome
     Outcome::Passed
 }
 
+// Every entry of table T names a mode that is there.
 #[tactic(auto, using(answers::proofs::Loops::run_laws), unfolding(answers::specs::Checks::first, crate::specs::ListTables::index_checks))]
 pub fn check_mode_entries<const T: u8>(e: Enclave) -> Outcome
     requires { T < tables }
-    ensures { let m = image_of e.entry in result ≡ first (run (index_checks T 20 6 m) 0 (m.rows T)) }
+    ensures { let m = image_of e.entry in result ≡ first (run (index_checks T fields.mode 6 m) 0 (m.rows T)) }
 {
     for i in 0..e.rows(T) {
         let entry = ModeEntry::<T>::row(e, i as usize);
@@ -62,10 +67,11 @@ pub fn check_mode_entries<const T: u8>(e: Enclave) -> Outcome
     Outcome::Passed
 }
 
+// Every entry of table T names a scope that is there.
 #[tactic(auto, using(answers::proofs::Loops::run_laws), unfolding(answers::specs::Checks::first, crate::specs::ListTables::index_checks))]
 pub fn check_scope_entries<const T: u8>(e: Enclave) -> Outcome
     requires { T < tables }
-    ensures { let m = image_of e.entry in result ≡ first (run (index_checks T 6 7 m) 0 (m.rows T)) }
+    ensures { let m = image_of e.entry in result ≡ first (run (index_checks T fields.scope 7 m) 0 (m.rows T)) }
 {
     for i in 0..e.rows(T) {
         let entry = ScopeEntry::<T>::row(e, i as usize);
@@ -77,7 +83,7 @@ pub fn check_scope_entries<const T: u8>(e: Enclave) -> Outcome
     Outcome::Passed
 }
 
-// Every startup of table T names an action that is there.
+// Every entry of table T names an action that is there, with its delay.
 #[tactic(auto, using(answers::proofs::Loops::run_laws), unfolding(answers::specs::Checks::first, crate::specs::ListTables::startup_checks))]
 pub fn check_startup_entries<const T: u8>(e: Enclave) -> Outcome
     requires { T < tables }
@@ -116,7 +122,7 @@ fn check_enabled_mode(e: Enclave, i: u32, reactor: ReactorIndex, start: u32, k: 
 
 // The enabled modes of reaction i.
 #[tactic(auto, using(answers::proofs::Loops::run_laws), unfolding(crate::specs::ListTables::enabled_modes_checks))]
-fn check_modes_of(e: Enclave, i: u32) -> Outcome
+fn check_modes_of_reaction(e: Enclave, i: u32) -> Outcome
     ensures { result ≡ first (enabled_modes_checks (image_of e.entry) i) }
 {
     let reaction = ReactionImage::row(e, ReactionIndex(i));
@@ -131,12 +137,11 @@ fn check_modes_of(e: Enclave, i: u32) -> Outcome
 }
 
 // The enabled modes of every reaction.
-#[tactic(auto, using(answers::proofs::Loops::run_laws))]
 pub fn check_enabled_modes(e: Enclave) -> Outcome
     ensures { let m = image_of e.entry in result ≡ first (run (enabled_modes_checks m) 0 (m.rows 5)) }
 {
     for i in 0..e.rows(ReactionImage::TABLE) {
-        let outcome = check_modes_of(e, i);
+        let outcome = check_modes_of_reaction(e, i);
         let Outcome::Passed = outcome else {
             return outcome;
         };
@@ -144,7 +149,7 @@ pub fn check_enabled_modes(e: Enclave) -> Outcome
     Outcome::Passed
 }
 
-// An entry is above the one before it.
+// An entry's index is above that of the entry before.
 #[tactic(auto, unfolding(answers::specs::Checks::first, crate::specs::ListTables::index_order_checks))]
 fn check_index_order(table: u8, index: u32, key: u32, before: u32) -> Outcome
     ensures { result ≡ first (index_order_checks table index key before) }
@@ -158,7 +163,7 @@ fn check_index_order(table: u8, index: u32, key: u32, before: u32) -> Outcome
     Outcome::Passed
 }
 
-// Entry i of the shutdown actions names `key`, which is there, and the entry before it names `before`.
+// Entry i of the shutdown actions names an action that is there, above the one that the entry before names.
 #[tactic(auto, unfolding(answers::specs::Checks::first, crate::specs::ListTables::index_checks, crate::specs::ListTables::shutdown_action_checks))]
 fn check_shutdown_action(e: Enclave, i: u32) -> Outcome
     ensures { result ≡ first (shutdown_action_checks (image_of e.entry) i) }
@@ -177,7 +182,6 @@ fn check_shutdown_action(e: Enclave, i: u32) -> Outcome
 }
 
 // Every shutdown action.
-#[tactic(auto, using(answers::proofs::Loops::run_laws))]
 pub fn check_shutdown_actions(e: Enclave) -> Outcome
     ensures { let m = image_of e.entry in result ≡ first (run (shutdown_action_checks m) 0 (m.rows 22)) }
 {

@@ -2,6 +2,7 @@
 ghost use Rattle.std.specs.Prelude.{◌≡◌};
 ghost use Rattle.answers.specs.Checks.{first, run};
 ghost use Rattle.checks.specs.Image.{image_of, route_part};
+ghost use Rattle.checks.specs.Lists.{after_first};
 ghost use Rattle.schema.specs.Tables.{rows_of};
 ghost use Rattle.list_checks.specs.Routes.{route_order_checks, route_row, route_checks, binding_id_row, binding_id_checks};
 
@@ -16,25 +17,28 @@ use schema::index::{BindingSlotIndex, RouteDirection};
 use schema::lent::Enclave;
 use schema::rows::{RequiredBindingImage, RouteImage};
 
-// Of one boundary, the halves of two routes one after the other.
+// A route against the one before it, if there is one: boundaries rise, and of one boundary the inbound half comes first.
 #[tactic(auto, unfolding(answers::specs::Checks::first, crate::specs::Routes::route_order_checks))]
 fn check_route_order(
     i: u32,
     route: RouteImage,
     text: &[u8],
-    before: &[u8],
-    direction: RouteDirection,
+    previous: &[u8],
+    previous_direction: RouteDirection,
 ) -> Outcome
-    ensures { result ≡ first (route_order_checks i route.boundary text.now route.direction before.now direction) }
+    ensures { result ≡ first (after_first i (route_order_checks i route.boundary text.now route.direction previous.now previous_direction)) }
 {
+    if i == 0 {
+        return Outcome::Passed;
+    }
     let boundary = route.boundary;
-    match compare_bytes(text, before) {
+    match compare_bytes(text, previous) {
         ByteOrder::Less => Outcome::Refused(Refusal::StableIdsNotSorted {
             kind: kind::BOUNDARY,
             index: i,
             id: boundary,
         }),
-        ByteOrder::Equal => match (direction, route.direction) {
+        ByteOrder::Equal => match (previous_direction, route.direction) {
             (RouteDirection::Inbound, RouteDirection::Outbound) => Outcome::Passed,
             (RouteDirection::Outbound, RouteDirection::Inbound) => {
                 Outcome::Refused(Refusal::EntriesNotSorted {
@@ -51,56 +55,54 @@ fn check_route_order(
     }
 }
 
-// Row i of the routes: its boundary's text, and the text and the direction of the row before.
+// Row i of the routes, with its boundary's text, and the text and the direction of the row before.
 #[tactic(auto, using(answers::proofs::Laws::list_laws), unfolding(answers::specs::Checks::first, crate::specs::Routes::route_row))]
 fn check_route(
     e: Enclave,
     i: u32,
     route: RouteImage,
     text: &[u8],
-    before: &[u8],
-    direction: RouteDirection,
+    previous: &[u8],
+    previous_direction: RouteDirection,
 ) -> Outcome
-    ensures { result ≡ first (route_row (rows_of e.entry.starts.now) i (route_part route) text.now before.now direction) }
+    ensures { result ≡ first (route_row (rows_of e.entry.starts.now) i (route_part route) text.now previous.now previous_direction) }
 {
     let valid = validate_text(kind::BOUNDARY, i, route.boundary, text);
     let Outcome::Passed = valid else {
         return valid;
     };
-    if i != 0 {
-        let order = check_route_order(i, route, text, before, direction);
-        let Outcome::Passed = order else {
-            return order;
-        };
-    }
+    let order = check_route_order(i, route, text, previous, previous_direction);
+    let Outcome::Passed = order else {
+        return order;
+    };
     check_port_ref(e, RouteImage::TABLE, i, field::LOCAL_PORT, route.local_port).refused()
 }
 
-// Every route.
+// Every route. Row 0, which is compared with none, stands for the row before itself.
 #[tactic(auto, using(answers::proofs::Loops::run_laws), unfolding(crate::specs::Routes::route_checks))]
 pub fn check_routes(e: Enclave) -> Outcome
     ensures { let m = image_of e.entry in result ≡ first (run (route_checks m) 0 (m.rows 23)) }
 {
-    let first = RouteImage::row(e, 0);
-    let mut before = identity_text(e.batch, e.house, first.boundary);
-    let mut direction = first.direction;
+    let row = RouteImage::row(e, 0);
+    let mut previous = identity_text(e.batch, e.house, row.boundary);
+    let mut previous_direction = row.direction;
     for i in 0..e.rows(RouteImage::TABLE) {
         let route = RouteImage::row(e, i);
         let text = identity_text(e.batch, e.house, route.boundary);
-        let outcome = check_route(e, i, route, text, before, direction);
+        let outcome = check_route(e, i, route, text, previous, previous_direction);
         let Outcome::Passed = outcome else {
             return outcome;
         };
-        before = text;
-        direction = route.direction;
+        previous = text;
+        previous_direction = route.direction;
     }
     Outcome::Passed
 }
 
-// Row i of the required bindings: its identity's text, and that of the row before.
+// Row i of the required bindings, with its identity's text and that of the row before.
 #[tactic(auto, unfolding(answers::specs::Checks::first, crate::specs::Routes::binding_id_row))]
-fn check_binding_id(i: u32, id: IdentityPlace, text: &[u8], before: &[u8]) -> Outcome
-    ensures { result ≡ first (binding_id_row i id text.now before.now) }
+fn check_binding_id(i: u32, id: IdentityPlace, text: &[u8], previous: &[u8]) -> Outcome
+    ensures { result ≡ first (binding_id_row i id text.now previous.now) }
 {
     let valid = validate_text(kind::BINDING, i, id, text);
     let Outcome::Passed = valid else {
@@ -109,24 +111,24 @@ fn check_binding_id(i: u32, id: IdentityPlace, text: &[u8], before: &[u8]) -> Ou
     if i == 0 {
         return Outcome::Passed;
     }
-    validate_text_order(kind::BINDING, i, id, text, before)
+    validate_text_order(kind::BINDING, i, id, text, previous)
 }
 
-// Every required binding.
+// Every required binding. Row 0, which is compared with none, stands for the row before itself.
 #[tactic(auto, using(answers::proofs::Loops::run_laws), unfolding(crate::specs::Routes::binding_id_checks))]
 pub fn check_binding_ids(e: Enclave) -> Outcome
     ensures { let m = image_of e.entry in result ≡ first (run (binding_id_checks m) 0 (m.rows 24)) }
 {
-    let first = RequiredBindingImage::row(e, BindingSlotIndex(0));
-    let mut before = identity_text(e.batch, e.house, first.id);
+    let row = RequiredBindingImage::row(e, BindingSlotIndex(0));
+    let mut previous = identity_text(e.batch, e.house, row.id);
     for i in 0..e.rows(RequiredBindingImage::TABLE) {
         let binding = RequiredBindingImage::row(e, BindingSlotIndex(i));
         let text = identity_text(e.batch, e.house, binding.id);
-        let outcome = check_binding_id(i, binding.id, text, before);
+        let outcome = check_binding_id(i, binding.id, text, previous);
         let Outcome::Passed = outcome else {
             return outcome;
         };
-        before = text;
+        previous = text;
     }
     Outcome::Passed
 }

@@ -7,4 +7,4 @@ use Rattle.list_checks.proofs.routes.check_binding_ids.Given as goal
 abbrev pub invariant-loop-i : goal.invariant-loop-i
 invariant-loop-i l =
     let m = image_of l.e in
-    Remaining (binding_id_checks m) l.i (m.rows 24) × (l.before ≡ m.text (m.bindings (l.i - 1)).id)
+    Remaining (binding_id_checks m) l.i (m.rows 24) × (l.previous ≡ m.text (m.bindings (l.i - 1)).id)

@@ -1,7 +1,7 @@
 use Rattle.answers.proofs.Loops.{Remaining}
 use Rattle.checks.specs.Image.{image_of}
 use Rattle.list_checks.specs.ListTables.{enabled_mode_checks}
-use Rattle.list_checks.proofs.list_tables.check_modes_of.Given as goal
+use Rattle.list_checks.proofs.list_tables.check_modes_of_reaction.Given as goal
 
 abbrev pub invariant-loop-k : goal.invariant-loop-k
 invariant-loop-k l =
