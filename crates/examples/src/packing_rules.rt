@@ -1,8 +1,7 @@
 // Packs by hand for each packing refusal, a line for each: what is set in it, and the library's answer.
 use crate::refused::write_refusal;
-use answers::Outcome;
-use packing::PackKind;
 use packing::rules::check_packing;
+use packing::{PackAnswer, PackKind};
 use packing::starts::table_starts;
 use std::alloc::{AllocError, Global};
 use std::io;
@@ -23,10 +22,10 @@ const BATCH: &[u8] = b"ab\xC3\xA9";
 // `h`, and a byte that no UTF-8 has.
 const HOUSE: &[u8] = b"h\xFF";
 
-fn write_outcome<W: Write>(out: &mut W, outcome: Outcome) -> io::Result<()> {
-    match outcome {
-        Outcome::Passed => writeln!(out, " packed"),
-        Outcome::Refused(refusal) => {
+fn write_packed<W: Write>(out: &mut W, answer: PackAnswer<'_>) -> io::Result<()> {
+    match answer {
+        PackAnswer::Pack(_) => writeln!(out, " packed"),
+        PackAnswer::Refused(refusal) => {
             write!(out, " ")?;
             write_refusal(out, refusal)
         }
@@ -35,7 +34,7 @@ fn write_outcome<W: Write>(out: &mut W, outcome: Outcome) -> io::Result<()> {
 
 // The answer for a pack over the two texts.
 fn write_answer<W: Write>(out: &mut W, kind: PackKind, pack: &[u8]) -> io::Result<()> {
-    write_outcome(out, check_packing(kind, pack, BATCH, HOUSE))
+    write_packed(out, check_packing(kind, pack, BATCH, HOUSE))
 }
 
 // Four digits in hexadecimal: a byte's place in its record, and its value.
@@ -204,7 +203,7 @@ fn show_texts<W: Write>(out: &mut W, text: &[u8], batch: usize, house: usize) ->
     pack[0] = 1;
     pack[9] = 1;
     write!(out, "{batch} {house}")?;
-    write_outcome(
+    write_packed(
         out,
         check_packing(PackKind::Enclave, &pack, batch_text, house_text),
     )
@@ -251,25 +250,27 @@ fn lengths<W: Write>(out: &mut W, alloc: Global) -> io::Result<()> {
     Ok(())
 }
 
-// Where each table begins in a pack whose rows are looked at from a record on.
-fn show_starts<W: Write>(out: &mut W, alloc: Global, text: &str, from: u32) -> io::Result<()> {
-    let pack = build(alloc, text)?;
-    write!(out, "{text} from {from}:")?;
-    for start in table_starts(&pack, from) {
-        write!(out, " {start}")?;
+// Where each table begins in an enclave's pack.
+fn show_starts<W: Write>(out: &mut W, alloc: Global, text: &str) -> io::Result<()> {
+    let bytes = build(alloc, text)?;
+    write!(out, "{text}:")?;
+    if let PackAnswer::Pack(pack) = check_packing(PackKind::Enclave, &bytes, BATCH, HOUSE) {
+        for start in table_starts(pack) {
+            write!(out, " {start}")?;
+        }
     }
     writeln!(out)
 }
 
 fn starts<W: Write>(out: &mut W, alloc: Global) -> io::Result<()> {
     writeln!(out, "where the tables begin")?;
-    show_starts(out, alloc, "0001", 1)?;
-    show_starts(out, alloc, "0001", 9)?;
-    show_starts(out, alloc, "0001/0002/0007/0007/0018", 1)?;
-    show_starts(out, alloc, "0001/0003/0003/0018/0018", 1)?;
-    show_starts(out, alloc, "0000/0001/0002/0002/0005/0001/0003/0016", 2)?;
-    show_starts(out, alloc, "0000/0001/0002/0002/0005/0001/0003/0016", 6)?;
-    show_starts(out, alloc, "0000/0001/0001/0002", 2)
+    for text in "0001|0001/0002/0007/0007/0018|0001/0003/0003/0018/0018|0001/0002/0003/0004/0005/0006\
+        /0007/0008/0009/000A/000B/000C/000D/000E/000F/0010/0011/0012/0013/0014/0015/0016/0017/0018"
+        .split('|')
+    {
+        show_starts(out, alloc, text)?;
+    }
+    Ok(())
 }
 
 pub fn show_all<W: Write>(out: &mut W, alloc: Global) -> io::Result<()> {
