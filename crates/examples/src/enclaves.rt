@@ -8,44 +8,42 @@ use cases::records;
 use schema::index::{BindingKind, RouteDirection};
 use schema::lists::ReactionTrigger;
 use schema::rows::{ActionImage, EnclaveImage, ReactorImage, ScopeImage};
-use std::alloc::Global;
-use std::io;
-use std::io::Write;
+use std::alloc::{AllocError, Global};
 
-fn with_enclave<W: Write>(
-    out: &mut W,
+fn with_enclave(
+    out: &mut String,
     alloc: Global,
     name: &str,
     enclave: EnclaveImage,
     batch: &[u8],
-) -> io::Result<()> {
+) -> Result<(), AllocError> {
     let records = s(enclave, ReactorImage::empty(), ScopeImage::empty());
     show_enclave(out, alloc, name, &records, batch)
 }
 
-fn with_reactor<W: Write>(
-    out: &mut W,
+fn with_reactor(
+    out: &mut String,
     alloc: Global,
     name: &str,
     reactor: ReactorImage,
-) -> io::Result<()> {
+) -> Result<(), AllocError> {
     let records = s(rows::enclave_s(), reactor, ScopeImage::empty());
     show_enclave(out, alloc, name, &records, b"ab")
 }
 
-fn with_scopes<W: Write>(
-    out: &mut W,
+fn with_scopes(
+    out: &mut String,
     alloc: Global,
     name: &str,
     first: ScopeImage,
     second: ScopeImage,
-) -> io::Result<()> {
+) -> Result<(), AllocError> {
     let records = two_scopes(rows::enclave_s(), first, second);
     show_enclave(out, alloc, name, &records, b"ab")
 }
 
 // Reactor 0 has the modes 0+1, and reactor 1 an empty span.
-fn with_spans<W: Write>(out: &mut W, alloc: Global, name: &str, start: u64) -> io::Result<()> {
+fn with_spans(out: &mut String, alloc: Global, name: &str, start: u64) -> Result<(), AllocError> {
     let records = [
         records::enclave(rows::enclave_s()),
         records::reactor(rows::reactor(0, 0, 1)),
@@ -59,13 +57,13 @@ fn with_spans<W: Write>(out: &mut W, alloc: Global, name: &str, start: u64) -> i
     show_enclave(out, alloc, name, &records, b"ab")
 }
 
-fn with_action<W: Write>(
-    out: &mut W,
+fn with_action(
+    out: &mut String,
     alloc: Global,
     name: &str,
     enclave: EnclaveImage,
     action: ActionImage,
-) -> io::Result<()> {
+) -> Result<(), AllocError> {
     let records = [
         records::enclave(enclave),
         records::reactor(ReactorImage::empty()),
@@ -76,7 +74,7 @@ fn with_action<W: Write>(
     show_enclave(out, alloc, name, &records, b"ab")
 }
 
-fn slots_and_parents<W: Write>(out: &mut W, alloc: Global) -> io::Result<()> {
+fn slots_and_parents(out: &mut String, alloc: Global) -> Result<(), AllocError> {
     with_enclave(out, alloc, "S", rows::enclave_s(), b"ab")?;
     with_enclave(
         out,
@@ -110,7 +108,7 @@ fn slots_and_parents<W: Write>(out: &mut W, alloc: Global) -> io::Result<()> {
     with_scopes(out, alloc, name, rows::scope_under(1), rows::scope_under(0))
 }
 
-fn spans_and_banks<W: Write>(out: &mut W, alloc: Global) -> io::Result<()> {
+fn spans_and_banks(out: &mut String, alloc: Global) -> Result<(), AllocError> {
     with_spans(out, alloc, "modes 0+1, then 0+0", 0)?;
     with_spans(out, alloc, "modes 0+1, then 1+0", 1)?;
     with_reactor(out, alloc, "bank index 0 of 0", rows::bank_reactor(0, 0))?;
@@ -119,7 +117,7 @@ fn spans_and_banks<W: Write>(out: &mut W, alloc: Global) -> io::Result<()> {
 }
 
 // The identity stands behind S's own text.
-fn identities<W: Write>(out: &mut W, alloc: Global) -> io::Result<()> {
+fn identities(out: &mut String, alloc: Global) -> Result<(), AllocError> {
     let two = rows::enclave(2, 2, 1, 0);
     let three = rows::enclave(2, 3, 1, 0);
     with_enclave(out, alloc, "identity ` a`", two, b"ab a")?;
@@ -128,7 +126,7 @@ fn identities<W: Write>(out: &mut W, alloc: Global) -> io::Result<()> {
     with_enclave(out, alloc, "identity U+200B", three, b"ab\xE2\x80\x8B")
 }
 
-fn actions<W: Write>(out: &mut W, alloc: Global) -> io::Result<()> {
+fn actions(out: &mut String, alloc: Global) -> Result<(), AllocError> {
     let one = rows::enclave_one_action();
     let none = rows::enclave_s();
     let timer = rows::bound_timer();
@@ -152,7 +150,7 @@ fn actions<W: Write>(out: &mut W, alloc: Global) -> io::Result<()> {
 }
 
 // An action and a port with the same trigger.
-fn shared_trigger<W: Write>(out: &mut W, alloc: Global) -> io::Result<()> {
+fn shared_trigger(out: &mut String, alloc: Global) -> Result<(), AllocError> {
     let records = [
         records::enclave(rows::enclave_one_action()),
         records::reactor(ReactorImage::empty()),
@@ -171,7 +169,7 @@ fn shared_trigger<W: Write>(out: &mut W, alloc: Global) -> io::Result<()> {
 }
 
 // One half of the boundary `d`.
-fn halves<W: Write>(out: &mut W, alloc: Global) -> io::Result<()> {
+fn halves(out: &mut String, alloc: Global) -> Result<(), AllocError> {
     let a = rows::enclave_s();
     let inbound = rows::route(3, RouteDirection::Inbound);
     let outbound = rows::route(3, RouteDirection::Outbound);
@@ -191,7 +189,7 @@ fn halves<W: Write>(out: &mut W, alloc: Global) -> io::Result<()> {
     )
 }
 
-fn lengths<W: Write>(out: &mut W, alloc: Global) -> io::Result<()> {
+fn lengths(out: &mut String, alloc: Global) -> Result<(), AllocError> {
     let records = s(
         rows::enclave_s(),
         ReactorImage::empty(),
@@ -208,7 +206,7 @@ fn lengths<W: Write>(out: &mut W, alloc: Global) -> io::Result<()> {
     with_enclave(out, alloc, name, rows::enclave(2, 0, 1, 0), b"ab")
 }
 
-fn misreadings<W: Write>(out: &mut W, alloc: Global) -> io::Result<()> {
+fn misreadings(out: &mut String, alloc: Global) -> Result<(), AllocError> {
     let name = "an entry that no range covers";
     show_enclave(out, alloc, name, &uncovered_trigger(), b"ab")?;
     let a = rows::enclave_s();
@@ -220,7 +218,7 @@ fn misreadings<W: Write>(out: &mut W, alloc: Global) -> io::Result<()> {
     show_enclave(out, alloc, name, &two_halves(a, outbound, inbound), b"abcd")
 }
 
-pub fn show_all<W: Write>(out: &mut W, alloc: Global) -> io::Result<()> {
+pub fn show_all(out: &mut String, alloc: Global) -> Result<(), AllocError> {
     slots_and_parents(out, alloc)?;
     spans_and_banks(out, alloc)?;
     identities(out, alloc)?;

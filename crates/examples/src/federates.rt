@@ -7,8 +7,6 @@ use cases::records;
 use schema::index::{RouteDirection, TimingDomain};
 use schema::rows::{EnclaveImage, ReactorImage, RouteImage, ScopeImage};
 use std::alloc::{AllocError, Global};
-use std::io;
-use std::io::Write;
 
 // The pack of a line with the span start+len, before its stations.
 fn line(alloc: Global, name: u32, start: u64, len: u64) -> Result<Vec<u8>, AllocError> {
@@ -19,13 +17,13 @@ fn line(alloc: Global, name: u32, start: u64, len: u64) -> Result<Vec<u8>, Alloc
 }
 
 // S with another enclave, in a line `f` with the span 0+len.
-fn one_enclave<W: Write>(
-    out: &mut W,
+fn one_enclave(
+    out: &mut String,
     alloc: Global,
     name: &str,
     enclave: EnclaveImage,
     len: u64,
-) -> io::Result<()> {
+) -> Result<(), AllocError> {
     let mut pack = line(alloc, 2, 0, len)?;
     add(
         &mut pack,
@@ -34,13 +32,13 @@ fn one_enclave<W: Write>(
     show_federate(out, name, &pack, b"abf")
 }
 
-fn no_enclave<W: Write>(out: &mut W, alloc: Global) -> io::Result<()> {
+fn no_enclave(out: &mut String, alloc: Global) -> Result<(), AllocError> {
     let pack = line(alloc, 2, 0, 0)?;
     show_federate(out, "no station in a line, span length 0", &pack, b"abf")
 }
 
 // S twice, each time with scope 1 under scope 0.
-fn link_each<W: Write>(out: &mut W, alloc: Global) -> io::Result<()> {
+fn link_each(out: &mut String, alloc: Global) -> Result<(), AllocError> {
     let root = ScopeImage::empty();
     let under = rows::scope_under(0);
     let mut pack = line(alloc, 2, 0, 2)?;
@@ -53,14 +51,14 @@ fn link_each<W: Write>(out: &mut W, alloc: Global) -> io::Result<()> {
 }
 
 // S twice with other enclaves, in a line with the span start+2. ` a` stands behind the line's own text.
-fn two_enclaves<W: Write>(
-    out: &mut W,
+fn two_enclaves(
+    out: &mut String,
     alloc: Global,
     name: &str,
     first: EnclaveImage,
     second: EnclaveImage,
     start: u64,
-) -> io::Result<()> {
+) -> Result<(), AllocError> {
     let mut pack = line(alloc, 2, start, 2)?;
     add(
         &mut pack,
@@ -73,7 +71,7 @@ fn two_enclaves<W: Write>(
     show_federate(out, name, &pack, b"abf a")
 }
 
-fn uncovered<W: Write>(out: &mut W, alloc: Global) -> io::Result<()> {
+fn uncovered(out: &mut String, alloc: Global) -> Result<(), AllocError> {
     let mut pack = line(alloc, 2, 0, 1)?;
     add(&mut pack, &uncovered_trigger())?;
     let name = "an entry that no range covers, in a line";
@@ -82,12 +80,12 @@ fn uncovered<W: Write>(out: &mut W, alloc: Global) -> io::Result<()> {
 
 // Lines with routes have the text `abcddf`: the boundary `d` is at 3 and at 4.
 
-fn lone_half<W: Write>(
-    out: &mut W,
+fn lone_half(
+    out: &mut String,
     alloc: Global,
     name: &str,
     direction: RouteDirection,
-) -> io::Result<()> {
+) -> Result<(), AllocError> {
     let mut pack = line(alloc, 5, 0, 1)?;
     add(
         &mut pack,
@@ -97,13 +95,13 @@ fn lone_half<W: Write>(
 }
 
 // Two halves in one station.
-fn halves_together<W: Write>(
-    out: &mut W,
+fn halves_together(
+    out: &mut String,
     alloc: Global,
     name: &str,
     first: RouteDirection,
     second: RouteDirection,
-) -> io::Result<()> {
+) -> Result<(), AllocError> {
     let mut pack = line(alloc, 5, 0, 1)?;
     let (first, second) = (rows::route(3, first), rows::route(4, second));
     add(&mut pack, &two_halves(rows::enclave_s(), first, second))?;
@@ -111,13 +109,13 @@ fn halves_together<W: Write>(
 }
 
 // A half in each of two stations.
-fn halves_apart<W: Write>(
-    out: &mut W,
+fn halves_apart(
+    out: &mut String,
     alloc: Global,
     name: &str,
     first: RouteImage,
     second: RouteImage,
-) -> io::Result<()> {
+) -> Result<(), AllocError> {
     let mut pack = line(alloc, 5, 0, 2)?;
     add(&mut pack, &one_half(rows::enclave(0, 1, 1, 0), first))?;
     add(&mut pack, &one_half(rows::enclave(1, 1, 1, 0), second))?;
@@ -125,7 +123,7 @@ fn halves_apart<W: Write>(
 }
 
 // Both halves in each of two stations.
-fn both_twice<W: Write>(out: &mut W, alloc: Global) -> io::Result<()> {
+fn both_twice(out: &mut String, alloc: Global) -> Result<(), AllocError> {
     let inbound = rows::route(4, RouteDirection::Inbound);
     let outbound = rows::route(4, RouteDirection::Outbound);
     let first = rows::route(3, RouteDirection::Inbound);
@@ -142,7 +140,7 @@ fn both_twice<W: Write>(out: &mut W, alloc: Global) -> io::Result<()> {
 }
 
 // An outbound half, both halves, an inbound half: the first route is outbound.
-fn outbound_at_first<W: Write>(out: &mut W, alloc: Global) -> io::Result<()> {
+fn outbound_at_first(out: &mut String, alloc: Global) -> Result<(), AllocError> {
     let inbound = rows::route(4, RouteDirection::Inbound);
     let outbound = rows::route(4, RouteDirection::Outbound);
     let first = rows::route(3, RouteDirection::Outbound);
@@ -157,7 +155,7 @@ fn outbound_at_first<W: Write>(out: &mut W, alloc: Global) -> io::Result<()> {
     show_federate(out, name, &pack, b"abcddf")
 }
 
-fn counts<W: Write>(out: &mut W, alloc: Global) -> io::Result<()> {
+fn counts(out: &mut String, alloc: Global) -> Result<(), AllocError> {
     let a = rows::enclave_s();
     one_enclave(out, alloc, "S in a line", a, 1)?;
     one_enclave(
@@ -182,7 +180,7 @@ fn counts<W: Write>(out: &mut W, alloc: Global) -> io::Result<()> {
 }
 
 // A bad identity is the station's own, index 0; only the order has the station's place.
-fn identities<W: Write>(out: &mut W, alloc: Global) -> io::Result<()> {
+fn identities(out: &mut String, alloc: Global) -> Result<(), AllocError> {
     let a = rows::enclave_s();
     let b = rows::enclave(1, 1, 1, 0);
     let bad = rows::enclave(3, 2, 1, 0);
@@ -207,7 +205,7 @@ fn identities<W: Write>(out: &mut W, alloc: Global) -> io::Result<()> {
     )
 }
 
-fn boundaries<W: Write>(out: &mut W, alloc: Global) -> io::Result<()> {
+fn boundaries(out: &mut String, alloc: Global) -> Result<(), AllocError> {
     let inbound = RouteDirection::Inbound;
     let outbound = RouteDirection::Outbound;
     let name = "both halves in one station, inbound first";
@@ -232,7 +230,7 @@ fn boundaries<W: Write>(out: &mut W, alloc: Global) -> io::Result<()> {
     )
 }
 
-fn duplicates<W: Write>(out: &mut W, alloc: Global) -> io::Result<()> {
+fn duplicates(out: &mut String, alloc: Global) -> Result<(), AllocError> {
     let inbound = RouteDirection::Inbound;
     let outbound = RouteDirection::Outbound;
     let (first, second) = (rows::route(3, inbound), rows::route(4, inbound));
@@ -243,7 +241,7 @@ fn duplicates<W: Write>(out: &mut W, alloc: Global) -> io::Result<()> {
     outbound_at_first(out, alloc)
 }
 
-pub fn show_all<W: Write>(out: &mut W, alloc: Global) -> io::Result<()> {
+pub fn show_all(out: &mut String, alloc: Global) -> Result<(), AllocError> {
     counts(out, alloc)?;
     identities(out, alloc)?;
     uncovered(out, alloc)?;

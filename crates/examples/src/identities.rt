@@ -1,11 +1,9 @@
 // Examples from outside for the text of an identity, a line for each: bytes or places, and the library's answer.
 use identity::IdentityPlace;
-use std::alloc::Global;
-use std::io;
-use std::io::Write;
+use std::alloc::{AllocError, Global};
 
 // The bytes in hexadecimal, or `-` where there are none.
-fn write_hex<W: Write>(out: &mut W, text: &[u8]) -> io::Result<()> {
+fn write_hex(out: &mut String, text: &[u8]) -> Result<(), AllocError> {
     if text.is_empty() {
         return write!(out, "-");
     }
@@ -16,7 +14,7 @@ fn write_hex<W: Write>(out: &mut W, text: &[u8]) -> io::Result<()> {
 }
 
 // A text, whether it is UTF-8, and whether it is a valid identity.
-fn show_text<W: Write>(out: &mut W, text: &[u8]) -> io::Result<()> {
+fn show_text(out: &mut String, text: &[u8]) -> Result<(), AllocError> {
     write_hex(out, text)?;
     let utf8 = if identity::scan::is_utf8(text) {
         "utf-8"
@@ -32,7 +30,7 @@ fn show_text<W: Write>(out: &mut W, text: &[u8]) -> io::Result<()> {
 }
 
 // Texts with bars between them.
-fn show_texts<W: Write>(out: &mut W, heading: &str, texts: &[u8]) -> io::Result<()> {
+fn show_texts(out: &mut String, heading: &str, texts: &[u8]) -> Result<(), AllocError> {
     writeln!(out, "{heading}")?;
     for text in texts.split(|b| *b == b'|') {
         show_text(out, text)?;
@@ -41,7 +39,7 @@ fn show_texts<W: Write>(out: &mut W, heading: &str, texts: &[u8]) -> io::Result<
 }
 
 // A character after a letter, before one, and between two.
-fn show_character<W: Write>(out: &mut W, alloc: Global, character: &[u8]) -> io::Result<()> {
+fn show_character(out: &mut String, alloc: Global, character: &[u8]) -> Result<(), AllocError> {
     let mut text = Vec::new(alloc);
     text.extend_from_slice(character)?;
     text.push(b'a')?;
@@ -53,12 +51,12 @@ fn show_character<W: Write>(out: &mut W, alloc: Global, character: &[u8]) -> io:
 }
 
 // Characters with bars between them.
-fn show_characters<W: Write>(
-    out: &mut W,
+fn show_characters(
+    out: &mut String,
     alloc: Global,
     heading: &str,
     characters: &[u8],
-) -> io::Result<()> {
+) -> Result<(), AllocError> {
     writeln!(out, "{heading}")?;
     for character in characters.split(|b| *b == b'|') {
         show_character(out, alloc, character)?;
@@ -89,7 +87,7 @@ const BATCH: &[u8] = b"abcabd";
 const HOUSE: &[u8] = b"abc\xFFz";
 
 // A place, whether it is inside its text, and the text that it names.
-fn show_place<W: Write>(out: &mut W, name: &str) -> io::Result<()> {
+fn show_place(out: &mut String, name: &str) -> Result<(), AllocError> {
     let place = place(name);
     let inside = if identity::place::place_inside(BATCH, HOUSE, place) {
         "inside"
@@ -102,7 +100,7 @@ fn show_place<W: Write>(out: &mut W, name: &str) -> io::Result<()> {
 }
 
 // Two places and the order of their texts.
-fn show_order<W: Write>(out: &mut W, names: &str) -> io::Result<()> {
+fn show_order(out: &mut String, names: &str) -> Result<(), AllocError> {
     let Some((left, right)) = names.split_once(' ') else {
         return Ok(());
     };
@@ -110,7 +108,7 @@ fn show_order<W: Write>(out: &mut W, names: &str) -> io::Result<()> {
     writeln!(out, "{names} {order}")
 }
 
-fn utf_8<W: Write>(out: &mut W) -> io::Result<()> {
+fn utf_8(out: &mut String) -> Result<(), AllocError> {
     show_texts(
         out,
         "RFC 3629, section 7",
@@ -140,7 +138,7 @@ fn utf_8<W: Write>(out: &mut W) -> io::Result<()> {
     )
 }
 
-fn identities<W: Write>(out: &mut W) -> io::Result<()> {
+fn identities(out: &mut String) -> Result<(), AllocError> {
     show_texts(
         out,
         "document 01, and the empty text",
@@ -155,7 +153,7 @@ fn identities<W: Write>(out: &mut W) -> io::Result<()> {
     )
 }
 
-fn characters<W: Write>(out: &mut W, alloc: Global) -> io::Result<()> {
+fn characters(out: &mut String, alloc: Global) -> Result<(), AllocError> {
     show_characters(
         out,
         alloc,
@@ -180,7 +178,7 @@ fn characters<W: Write>(out: &mut W, alloc: Global) -> io::Result<()> {
     )
 }
 
-fn places<W: Write>(out: &mut W) -> io::Result<()> {
+fn places(out: &mut String) -> Result<(), AllocError> {
     writeln!(
         out,
         "places in the batch text abcabd and the house text abc FF z"
@@ -198,7 +196,7 @@ fn places<W: Write>(out: &mut W) -> io::Result<()> {
     Ok(())
 }
 
-pub fn show_all<W: Write>(out: &mut W, alloc: Global) -> io::Result<()> {
+pub fn show_all(out: &mut String, alloc: Global) -> Result<(), AllocError> {
     utf_8(out)?;
     identities(out)?;
     characters(out, alloc)?;

@@ -9,14 +9,19 @@ mod refused;
 mod rows;
 mod stations;
 
+use std::alloc::{AllocError, Global};
 use std::io;
-use std::io::{BufWriter, Write};
+use std::io::Write;
+
+fn show_all(out: &mut String, alloc: Global) -> Result<(), AllocError> {
+    identities::show_all(out, alloc)?;
+    packing_rules::show_all(out, alloc)?;
+    enclaves::show_all(out, alloc)?;
+    federates::show_all(out, alloc)
+}
 
 fn main(rt: HostRuntime) -> io::Result<()> {
-    let mut out = BufWriter::new(rt.alloc(), io::writer(&rt))?;
-    identities::show_all(&mut out, rt.alloc())?;
-    packing_rules::show_all(&mut out, rt.alloc())?;
-    enclaves::show_all(&mut out, rt.alloc())?;
-    federates::show_all(&mut out, rt.alloc())?;
-    out.flush()
+    let mut out = String::new(rt.alloc());
+    show_all(&mut out, rt.alloc())?;
+    io::writer(&rt).write_all(out.as_bytes())
 }

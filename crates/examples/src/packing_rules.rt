@@ -1,11 +1,9 @@
 // Packs by hand for each packing refusal, a line for each: what is set in it, and the library's answer.
 use crate::refused::write_refusal;
 use packing::rules::check_packing;
-use packing::{PackAnswer, PackKind};
 use packing::starts::table_starts;
+use packing::{PackAnswer, PackKind};
 use std::alloc::{AllocError, Global};
-use std::io;
-use std::io::Write;
 
 // How many bytes a record of each table uses.
 const USED: [usize; 25] = [
@@ -22,7 +20,7 @@ const BATCH: &[u8] = b"ab\xC3\xA9";
 // `h`, and a byte that no UTF-8 has.
 const HOUSE: &[u8] = b"h\xFF";
 
-fn write_packed<W: Write>(out: &mut W, answer: PackAnswer<'_>) -> io::Result<()> {
+fn write_packed(out: &mut String, answer: PackAnswer<'_>) -> Result<(), AllocError> {
     match answer {
         PackAnswer::Pack(_) => writeln!(out, " packed"),
         PackAnswer::Refused(refusal) => {
@@ -33,7 +31,7 @@ fn write_packed<W: Write>(out: &mut W, answer: PackAnswer<'_>) -> io::Result<()>
 }
 
 // The answer for a pack over the two texts.
-fn write_answer<W: Write>(out: &mut W, kind: PackKind, pack: &[u8]) -> io::Result<()> {
+fn write_answer(out: &mut String, kind: PackKind, pack: &[u8]) -> Result<(), AllocError> {
     write_packed(out, check_packing(kind, pack, BATCH, HOUSE))
 }
 
@@ -58,13 +56,13 @@ fn build(alloc: Global, text: &str) -> Result<Vec<u8>, AllocError> {
 }
 
 // A heading, and each pack of a list that has bars between them.
-fn show_packs<W: Write>(
-    out: &mut W,
+fn show_packs(
+    out: &mut String,
     alloc: Global,
     kind: PackKind,
     heading: &str,
     packs: &str,
-) -> io::Result<()> {
+) -> Result<(), AllocError> {
     writeln!(out, "{heading}")?;
     for text in packs.split('|') {
         let pack = build(alloc, text)?;
@@ -75,7 +73,7 @@ fn show_packs<W: Write>(
 }
 
 // A record of a table with one byte set: alone where it is the first of its pack, else after an enclave's.
-fn show_byte<W: Write>(out: &mut W, table: usize, at: usize, value: u8) -> io::Result<()> {
+fn show_byte(out: &mut String, table: usize, at: usize, value: u8) -> Result<(), AllocError> {
     let kind = if table == 0 {
         PackKind::Federate
     } else {
@@ -94,7 +92,7 @@ fn show_byte<W: Write>(out: &mut W, table: usize, at: usize, value: u8) -> io::R
 }
 
 // Each bit of bytes 1 to 3, the last used byte, the first unused one and the last one.
-fn show_table<W: Write>(out: &mut W, table: usize, used: usize) -> io::Result<()> {
+fn show_table(out: &mut String, table: usize, used: usize) -> Result<(), AllocError> {
     for at in 1..4 {
         for bit in [1, 2, 4, 8, 16, 32, 64, 128] {
             show_byte(out, table, at, bit)?;
@@ -107,7 +105,7 @@ fn show_table<W: Write>(out: &mut W, table: usize, used: usize) -> io::Result<()
     show_byte(out, table, 63, 128)
 }
 
-fn tables<W: Write>(out: &mut W) -> io::Result<()> {
+fn tables(out: &mut String) -> Result<(), AllocError> {
     writeln!(out, "one byte of a record")?;
     for (table, used) in USED.iter().enumerate() {
         show_table(out, table, *used)?;
@@ -115,7 +113,7 @@ fn tables<W: Write>(out: &mut W) -> io::Result<()> {
     Ok(())
 }
 
-fn order<W: Write>(out: &mut W, alloc: Global) -> io::Result<()> {
+fn order(out: &mut String, alloc: Global) -> Result<(), AllocError> {
     show_packs(
         out,
         alloc,
@@ -137,7 +135,7 @@ fn order<W: Write>(out: &mut W, alloc: Global) -> io::Result<()> {
     )
 }
 
-fn fields<W: Write>(out: &mut W, alloc: Global) -> io::Result<()> {
+fn fields(out: &mut String, alloc: Global) -> Result<(), AllocError> {
     show_packs(
         out,
         alloc,
@@ -164,7 +162,7 @@ fn fields<W: Write>(out: &mut W, alloc: Global) -> io::Result<()> {
     )
 }
 
-fn identities<W: Write>(out: &mut W, alloc: Global) -> io::Result<()> {
+fn identities(out: &mut String, alloc: Global) -> Result<(), AllocError> {
     show_packs(
         out,
         alloc,
@@ -195,7 +193,7 @@ fn identities<W: Write>(out: &mut W, alloc: Global) -> io::Result<()> {
 }
 
 // An enclave whose identity has 65,536 bytes, over so many bytes of a text.
-fn show_texts<W: Write>(out: &mut W, text: &[u8], batch: usize, house: usize) -> io::Result<()> {
+fn show_texts(out: &mut String, text: &[u8], batch: usize, house: usize) -> Result<(), AllocError> {
     let (Some(batch_text), Some(house_text)) = (text.get(..batch), text.get(..house)) else {
         return Ok(());
     };
@@ -209,7 +207,7 @@ fn show_texts<W: Write>(out: &mut W, text: &[u8], batch: usize, house: usize) ->
     )
 }
 
-fn texts<W: Write>(out: &mut W, alloc: Global) -> io::Result<()> {
+fn texts(out: &mut String, alloc: Global) -> Result<(), AllocError> {
     writeln!(
         out,
         "lengths of the texts, the batch text first; the identity has 65,536 bytes"
@@ -224,7 +222,7 @@ fn texts<W: Write>(out: &mut W, alloc: Global) -> io::Result<()> {
 }
 
 // An enclave and rows of table 9: up to one record more than a pack may have.
-fn lengths<W: Write>(out: &mut W, alloc: Global) -> io::Result<()> {
+fn lengths(out: &mut String, alloc: Global) -> Result<(), AllocError> {
     writeln!(out, "lengths of the pack")?;
     let mut pack = vec![in alloc; 0u8; LONGEST_PACK + 64]?;
     for record in pack.chunks_exact_mut(64) {
@@ -251,7 +249,7 @@ fn lengths<W: Write>(out: &mut W, alloc: Global) -> io::Result<()> {
 }
 
 // Where each table begins in an enclave's pack.
-fn show_starts<W: Write>(out: &mut W, alloc: Global, text: &str) -> io::Result<()> {
+fn show_starts(out: &mut String, alloc: Global, text: &str) -> Result<(), AllocError> {
     let bytes = build(alloc, text)?;
     write!(out, "{text}:")?;
     if let PackAnswer::Pack(pack) = check_packing(PackKind::Enclave, &bytes, BATCH, HOUSE) {
@@ -262,7 +260,7 @@ fn show_starts<W: Write>(out: &mut W, alloc: Global, text: &str) -> io::Result<(
     writeln!(out)
 }
 
-fn starts<W: Write>(out: &mut W, alloc: Global) -> io::Result<()> {
+fn starts(out: &mut String, alloc: Global) -> Result<(), AllocError> {
     writeln!(out, "where the tables begin")?;
     for text in "0001|0001/0002/0007/0007/0018|0001/0003/0003/0018/0018|0001/0002/0003/0004/0005/0006\
         /0007/0008/0009/000A/000B/000C/000D/000E/000F/0010/0011/0012/0013/0014/0015/0016/0017/0018"
@@ -273,7 +271,7 @@ fn starts<W: Write>(out: &mut W, alloc: Global) -> io::Result<()> {
     Ok(())
 }
 
-pub fn show_all<W: Write>(out: &mut W, alloc: Global) -> io::Result<()> {
+pub fn show_all(out: &mut String, alloc: Global) -> Result<(), AllocError> {
     lengths(out, alloc)?;
     texts(out, alloc)?;
     order(out, alloc)?;

@@ -11,8 +11,6 @@ use schema::index::BindingKind;
 use schema::lists::ReactionTrigger;
 use schema::rows::{EnclaveImage, ReactorImage, RouteImage, ScopeImage};
 use std::alloc::{AllocError, Global};
-use std::io;
-use std::io::Write;
 
 // S with another enclave, reactor or scope.
 pub fn s(enclave: EnclaveImage, reactor: ReactorImage, scope: ScopeImage) -> [Record; 4] {
@@ -88,12 +86,12 @@ pub fn pack_of(alloc: Global, records: &[Record]) -> Result<Vec<u8>, AllocError>
 }
 
 // The answer for the bytes of a station.
-pub fn show_enclave_bytes<W: Write>(
-    out: &mut W,
+pub fn show_enclave_bytes(
+    out: &mut String,
     name: &str,
     pack: &[u8],
     batch: &[u8],
-) -> io::Result<()> {
+) -> Result<(), AllocError> {
     write!(out, "{name}: ")?;
     match check_enclave(pack, batch, b"") {
         EnclaveAnswer::Accepted { links } => writeln!(out, "accepted {links}"),
@@ -102,24 +100,24 @@ pub fn show_enclave_bytes<W: Write>(
 }
 
 // The answer for the records of a station.
-pub fn show_enclave<W: Write>(
-    out: &mut W,
+pub fn show_enclave(
+    out: &mut String,
     alloc: Global,
     name: &str,
     records: &[Record],
     batch: &[u8],
-) -> io::Result<()> {
+) -> Result<(), AllocError> {
     let pack = pack_of(alloc, records)?;
     show_enclave_bytes(out, name, &pack, batch)
 }
 
 // The answer for the bytes of a line.
-pub fn show_federate<W: Write>(
-    out: &mut W,
+pub fn show_federate(
+    out: &mut String,
     name: &str,
     pack: &[u8],
     batch: &[u8],
-) -> io::Result<()> {
+) -> Result<(), AllocError> {
     write!(out, "{name}: ")?;
     match check_federate(pack, batch, b"") {
         FederateAnswer::Accepted { enclaves, links } => {
