@@ -1,4 +1,4 @@
-/* The check of packed images, for a host in C or C++. Link libimage_check.a, which `rt staticlib image_check` writes. */
+/* The check of packed images, for a host in C or C++. Link libimage_check.a, which `./build image_check` makes. */
 #ifndef IMAGE_CHECK_H
 #define IMAGE_CHECK_H
 

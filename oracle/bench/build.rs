@@ -6,7 +6,7 @@ use std::{env, fs};
 fn main() {
     let manifest = PathBuf::from(env::var("CARGO_MANIFEST_DIR").expect("run by cargo"));
     println!("cargo:rerun-if-env-changed=IMAGE_CHECK_LIB_DIR");
-    let named = env::var("IMAGE_CHECK_LIB_DIR").unwrap_or_else(|_| "../../target/staticlib".into());
+    let named = env::var("IMAGE_CHECK_LIB_DIR").unwrap_or_else(|_| "../../target".into());
     let directory = manifest.join(named);
     println!("cargo:rustc-link-search=native={}", directory.display());
     let archive = directory.join("libidentity_check.a");

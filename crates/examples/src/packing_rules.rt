@@ -1,0 +1,282 @@
+// Packs by hand for each packing refusal, a line for each: what is set in it, and the library's answer.
+use crate::refused::write_refusal;
+use packing::rules::check_packing;
+use packing::starts::table_starts;
+use packing::{PackAnswer, PackKind};
+use std::alloc::{AllocError, Global};
+
+// How many bytes a record of each table uses.
+const USED: [usize; 25] = [
+    44, 48, 44, 32, 20, 56, 12, 64, 12, 8, 8, 8, 8, 8, 8, 16, 12, 16, 16, 16, 16, 16, 8, 24, 12,
+];
+
+const LONGEST_PACK: usize = 4_194_304;
+
+const LONGEST_TEXT: usize = 65_536;
+
+// `ab`, and e with an acute accent.
+const BATCH: &[u8] = b"ab\xC3\xA9";
+
+// `h`, and a byte that no UTF-8 has.
+const HOUSE: &[u8] = b"h\xFF";
+
+fn write_packed(out: &mut String, answer: PackAnswer<'_>) -> Result<(), AllocError> {
+    match answer {
+        PackAnswer::Pack(_) => writeln!(out, " packed"),
+        PackAnswer::Refused(refusal) => {
+            write!(out, " ")?;
+            write_refusal(out, refusal)
+        }
+    }
+}
+
+// The answer for a pack over the two texts.
+fn write_answer(out: &mut String, kind: PackKind, pack: &[u8]) -> Result<(), AllocError> {
+    write_packed(out, check_packing(kind, pack, BATCH, HOUSE))
+}
+
+// Four digits in hexadecimal: a byte's place in its record, and its value.
+fn set_byte(record: &mut [u8; 64], item: &str) {
+    if let Ok(item) = u64::from_str_radix(item, 16) {
+        record[(item / 256 % 64) as usize] = (item % 256) as u8;
+    }
+}
+
+// The pack that a text names: records with slashes between them, bytes with blanks between them.
+fn build(alloc: Global, text: &str) -> Result<Vec<u8>, AllocError> {
+    let mut pack = Vec::new(alloc);
+    for items in text.split('/') {
+        let mut record = [0u8; 64];
+        for item in items.split(' ') {
+            set_byte(&mut record, item);
+        }
+        pack.extend_from_slice(&record)?;
+    }
+    Ok(pack)
+}
+
+// A heading, and each pack of a list that has bars between them.
+fn show_packs(
+    out: &mut String,
+    alloc: Global,
+    kind: PackKind,
+    heading: &str,
+    packs: &str,
+) -> Result<(), AllocError> {
+    writeln!(out, "{heading}")?;
+    for text in packs.split('|') {
+        let pack = build(alloc, text)?;
+        write!(out, "{text}")?;
+        write_answer(out, kind, &pack)?;
+    }
+    Ok(())
+}
+
+// A record of a table with one byte set: alone where it is the first of its pack, else after an enclave's.
+fn show_byte(out: &mut String, table: usize, at: usize, value: u8) -> Result<(), AllocError> {
+    let kind = if table == 0 {
+        PackKind::Federate
+    } else {
+        PackKind::Enclave
+    };
+    let start = if table < 2 { 0 } else { 64 };
+    let mut pack = [0u8; 128];
+    pack[0] = 1;
+    let record = &mut pack[start..start + 64];
+    record[0] = (table % 256) as u8;
+    if let Some(byte) = record.get_mut(at) {
+        *byte = value;
+    }
+    write!(out, "table {table} byte {at} is {value}")?;
+    write_answer(out, kind, &pack[..start + 64])
+}
+
+// Each bit of bytes 1 to 3, the last used byte, the first unused one and the last one.
+fn show_table(out: &mut String, table: usize, used: usize) -> Result<(), AllocError> {
+    for at in 1..4 {
+        for bit in [1, 2, 4, 8, 16, 32, 64, 128] {
+            show_byte(out, table, at, bit)?;
+        }
+    }
+    show_byte(out, table, used.saturating_sub(1), 1)?;
+    if used < 64 {
+        show_byte(out, table, used, 1)?;
+    }
+    show_byte(out, table, 63, 128)
+}
+
+fn tables(out: &mut String) -> Result<(), AllocError> {
+    writeln!(out, "one byte of a record")?;
+    for (table, used) in USED.iter().enumerate() {
+        show_table(out, table, *used)?;
+    }
+    Ok(())
+}
+
+fn order(out: &mut String, alloc: Global) -> Result<(), AllocError> {
+    show_packs(
+        out,
+        alloc,
+        PackKind::Enclave,
+        "tables of an enclave pack",
+        "0000|0001|0002|0018|0019|00FF|0001/0000|0001/0001|0001/0002|0001/0018|0001/0019|0001/00FF\
+        |0001/0002/0002|0001/0003/0002|0001/0002/0003/0003/0018|0001/0018/0002|0001/0002/0001\
+        |0001/0002/0019 0101|0001/0002/0003/0004/0005/0006/0007/0008/0009/000A/000B/000C/000D/000E\
+        /000F/0010/0011/0012/0013/0014/0015/0016/0017/0018",
+    )?;
+    show_packs(
+        out,
+        alloc,
+        PackKind::Federate,
+        "tables of a federate pack",
+        "0000|0001|0002|0019|0000/0000|0000/0001|0000/0002|0000/0018|0000/0019|0000/0001/0000\
+        |0000/0001/0001|0000/0001/0002/0001/0002|0000/0001/0003/0002|0000/0001/0018/0001/0002\
+        |0000/0001/0002/0000|0000/0001/0019",
+    )
+}
+
+fn fields(out: &mut String, alloc: Global) -> Result<(), AllocError> {
+    show_packs(
+        out,
+        alloc,
+        PackKind::Enclave,
+        "fields with and without their presence bit",
+        "0001/0002 2001|0001/0002 2301|0001/0002 0101 2301|0001/0002 0102 2301|0001/0002 2401\
+        |0001/0002 2701|0001/0002 0102 2701|0001/0002 2801|0001/0002 2B01|0001/0002 0102 2B01\
+        |0001/0002 0101 2B01|0001/0002 0103 2301 2B01|0001/0003 0C01|0001/0003 0F01|0001/0003 0101 0F01\
+        |0001/0005 3401|0001/0005 3701|0001/0005 0102 3701|0001/0005 0101 3701|0001/0007 0401|0001/0007 0701\
+        |0001/0007 0101 0701|0001/0007 0102 0701|0001/0007 0C01|0001/0007 0F01|0001/0007 0102 0F01\
+        |0001/0007 0101 0F01",
+    )?;
+    show_packs(
+        out,
+        alloc,
+        PackKind::Enclave,
+        "kinds of actions and reactions",
+        "0001/0003 0200|0001/0003 0201|0001/0003 0202|0001/0003 0203|0001/0003 0204\
+        |0001/0003 0102 0200|0001/0003 0102 0201|0001/0003 0102 0202|0001/0003 0102 0203\
+        |0001/0003 0200 1001|0001/0003 0201 1701|0001/0003 0202 1001|0001/0003 0202 1701\
+        |0001/0003 0102 0202 1001|0001/0003 0102 0202 1701|0001/0003 0203 1001|0001/0003 0203 1701\
+        |0001/0005 0201|0001/0005 0101 0201|0001/0005 0102 0201|0001/0005 0102 0202|0001/0018 0203|0001/0018 0204\
+        |0001/0017 0203|0001/0017 0204",
+    )
+}
+
+fn identities(out: &mut String, alloc: Global) -> Result<(), AllocError> {
+    show_packs(
+        out,
+        alloc,
+        PackKind::Enclave,
+        "identities in the batch text and in the house text",
+        "0001 0B02|0001 0B04|0001 0B05|0001 0704|0001 0705|0001 0704 0B01|0001 0703 0B02|0001 0702 0B02\
+        |0001 0B03|0001 0703 0B01|0001 0702 0B01|0001 0101 0B01|0001 0101 0B02|0001 0101 0B03|0001 0101 0702\
+        |0001 0101 0703|0001 0101 0701 0B01|0001 04FF 05FF 06FF 07FF 08FF 09FF 0AFF 0BFF|0001 0801|0001 0401\
+        |0001 04FF 05FF 06FF 07FC 0B04|0001/0017 0B04|0001/0017 0B05|0001/0017 0B03|0001/0017 0101 0B02\
+        |0001/0018 0B04|0001/0018 0B05|0001/0018 0B03|0001/0018 0101 0B01",
+    )?;
+    show_packs(
+        out,
+        alloc,
+        PackKind::Federate,
+        "the three identities of a federate",
+        "0000 0B05|0000 1305|0000 1B05|0000 0B03|0000 1303|0000 1B03|0000 0B03 1305|0000 0B05 1303\
+        |0000 1303 1B05|0000 0B02 1302 1B02|0000 0101 0B02|0000 0102 0B02|0000 0102 1302|0000 0104 1302\
+        |0000 0104 1B02|0000 0107 0B01 1301 1B01|0000 0107 0B01 1301 1B03",
+    )?;
+    show_packs(
+        out,
+        alloc,
+        PackKind::Enclave,
+        "the first check that fails",
+        "0001 0703 0B01/0001|0001 0B05/0001|0001/0001 3F01|0001 3F01 0B05|0001/0003 0102/0002|0001/0002 3F01/0019",
+    )
+}
+
+// An enclave whose identity has 65,536 bytes, over so many bytes of a text.
+fn show_texts(out: &mut String, text: &[u8], batch: usize, house: usize) -> Result<(), AllocError> {
+    let (Some(batch_text), Some(house_text)) = (text.get(..batch), text.get(..house)) else {
+        return Ok(());
+    };
+    let mut pack = [0u8; 64];
+    pack[0] = 1;
+    pack[9] = 1;
+    write!(out, "{batch} {house}")?;
+    write_packed(
+        out,
+        check_packing(PackKind::Enclave, &pack, batch_text, house_text),
+    )
+}
+
+fn texts(out: &mut String, alloc: Global) -> Result<(), AllocError> {
+    writeln!(
+        out,
+        "lengths of the texts, the batch text first; the identity has 65,536 bytes"
+    )?;
+    let text = vec![in alloc; 0u8; LONGEST_TEXT + 1]?;
+    show_texts(out, &text, 0, 0)?;
+    show_texts(out, &text, LONGEST_TEXT - 1, 0)?;
+    show_texts(out, &text, LONGEST_TEXT, LONGEST_TEXT)?;
+    show_texts(out, &text, LONGEST_TEXT + 1, LONGEST_TEXT)?;
+    show_texts(out, &text, LONGEST_TEXT, LONGEST_TEXT + 1)?;
+    show_texts(out, &text, LONGEST_TEXT + 1, LONGEST_TEXT + 1)
+}
+
+// An enclave and rows of table 9: up to one record more than a pack may have.
+fn lengths(out: &mut String, alloc: Global) -> Result<(), AllocError> {
+    writeln!(out, "lengths of the pack")?;
+    let mut pack = vec![in alloc; 0u8; LONGEST_PACK + 64]?;
+    for record in pack.chunks_exact_mut(64) {
+        record[0] = 9;
+    }
+    pack[0] = 1;
+    for len in [
+        0,
+        63,
+        64,
+        65,
+        128,
+        LONGEST_PACK - 1,
+        LONGEST_PACK,
+        LONGEST_PACK + 1,
+        LONGEST_PACK + 64,
+    ] {
+        if let Some(part) = pack.get(..len) {
+            write!(out, "{len}")?;
+            write_answer(out, PackKind::Enclave, part)?;
+        }
+    }
+    Ok(())
+}
+
+// Where each table begins in an enclave's pack.
+fn show_starts(out: &mut String, alloc: Global, text: &str) -> Result<(), AllocError> {
+    let bytes = build(alloc, text)?;
+    write!(out, "{text}:")?;
+    if let PackAnswer::Pack(pack) = check_packing(PackKind::Enclave, &bytes, BATCH, HOUSE) {
+        for start in table_starts(pack) {
+            write!(out, " {start}")?;
+        }
+    }
+    writeln!(out)
+}
+
+fn starts(out: &mut String, alloc: Global) -> Result<(), AllocError> {
+    writeln!(out, "where the tables begin")?;
+    for text in "0001|0001/0002/0007/0007/0018|0001/0003/0003/0018/0018|0001/0002/0003/0004/0005/0006\
+        /0007/0008/0009/000A/000B/000C/000D/000E/000F/0010/0011/0012/0013/0014/0015/0016/0017/0018"
+        .split('|')
+    {
+        show_starts(out, alloc, text)?;
+    }
+    Ok(())
+}
+
+pub fn show_all(out: &mut String, alloc: Global) -> Result<(), AllocError> {
+    lengths(out, alloc)?;
+    texts(out, alloc)?;
+    order(out, alloc)?;
+    fields(out, alloc)?;
+    identities(out, alloc)?;
+    tables(out)?;
+    starts(out, alloc)
+}
