@@ -30,7 +30,7 @@ use Rattle.enclave.specs.Passes.{row_passes, list_passes, passes, pass_checks, c
 use Rattle.enclave.specs.Answer.{image_answer, enclave_answer}
 use Rattle.federate.specs.Records.{count_below, enclave_before, enclave_from}
 use Rattle.federate.specs.Enclaves as enclaves
-use Rattle.federate.specs.RoutePairs.{route_record_checks}
+use Rattle.route_pairs.specs.RoutePairs.{route_record_checks}
 use Rattle.federate.specs.Federate.{federate_checks}
 use Rattle.federate.specs.Answer.{federate_answer}
 use Rattle.cases.specs.Packs.{bytes, rec, federate, enclave, reactor, bank_reactor, action, bound_action, port, reaction, mode, scope, scope_under, mode_scope, trigger, binding, ab, enclave_s, reactor_s, scope_s, binding_s}

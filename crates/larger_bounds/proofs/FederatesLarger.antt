@@ -15,7 +15,7 @@ use Rattle.scope_checks.specs.Links.{links}
 use Rattle.enclave.specs.Passes.{enclave_checks}
 use Rattle.federate.specs.Records.{is_of, enclaves_of}
 use Rattle.federate.specs.Enclaves.{image_at, order_checks, record_checks, links_before}
-use Rattle.federate.specs.RoutePairs.{route_record_checks}
+use Rattle.route_pairs.specs.RoutePairs.{route_record_checks}
 use Rattle.federate.specs.Federate.{metadata_checks, count_check, federate_checks}
 use Rattle.federate.specs.Answer.{federate_answer}
 use Rattle.larger_bounds.specs.Packs.{DifferInStorage, NoBoundSmaller, SlotAnswer}

@@ -14,7 +14,7 @@ use Rattle.schema.specs.Rows.{byte_of, federate_of, route_of, federate_at, route
 use Rattle.schema.specs.Records.{records_of}
 use Rattle.federate.specs.declared.route_pairs.Half.{Half}
 use Rattle.federate.specs.Records.{is_of, count_below, enclaves_before, enclaves_of, enclave_before, enclave_from, enclave_end, enclave_pack}
-use Rattle.federate.specs.RoutePairs.{half_at, halves, pair_checks, route_record_checks}
+use Rattle.route_pairs.specs.RoutePairs.{half_at, halves, pair_checks, route_record_checks}
 use Rattle.larger_bounds.specs.Packs.{StorageByte, DifferInStorage}
 use Rattle.larger_bounds.proofs.RowBytes.{row_same}
 use Rattle.larger_bounds.proofs.SamePacks.{table_same, record_same}
