@@ -8,7 +8,11 @@ use Rattle.std.specs.Cmp.Lexicographic.{slice_cmp}
 use Rattle.std.specs.Ordering.{nat_cmp, is_lt, ordering_then, ordering_reverse, then_cmp, on}
 use Rattle.std.specs.declared.cmp.Ordering.{Ordering}
 use Rattle.std.specs.declared.cmp.Ordering.TheVariants as order
-use Rattle.std.specs.List.Sorted.{IsSorted}
+use denote.Param.Members.{Mut}
+use denote.Ref.{Bor}
+use Rattle.std.specs.Fn.{Called}
+use Rattle.std.proofs.lemmas.Fn.{always_returns_same}
+use Rattle.std.specs.List.Sorted.{IsSorted, IsSortedByClosure}
 use Rattle.identity.specs.declared.ByteOrder.{ByteOrder}
 use Rattle.identity.specs.declared.ByteOrder.TheVariants.{Less, Equal, Greater}
 use Rattle.identity.specs.Order.{compared}
@@ -76,3 +80,9 @@ module _ (key : ℕ → List ℕ) (rows : List ℕ) (up : IsSorted (row_order ke
       same_text (key (get_or rows a 0)) (key (get_or rows b 0))
       (rw e (not_less key (get_or rows b 0) (get_or rows c 0) (in_order b c g m)))
       (not_less key (get_or rows a 0) (get_or rows b 0) (in_order a b h (omega arith)))
+
+-- what a sort says of a closure that answers by the order of rows
+pub sorted_rows : (key : ℕ → List ℕ) (rows : List ℕ) {F : Type 0} {g : Mut F (Bor ℕ × (Bor ℕ × Unit {0})) Ordering} {f : F} → IsSortedByClosure g f rows
+    → ((a : Bor ℕ × (Bor ℕ × Unit {0})) (r : Ordering) (h : F) → Called g f a r h → (is_lt r ≡ is_lt (row_order key a.0.now a.1.0.now)) × (h ≡ f))
+    → IsSorted (row_order key) rows
+sorted_rows key rows {g = g} {f = f} sorted answers = sorted (λ a b. is_lt (row_order key a b)) (row_order_weak key) (always_returns_same g _ f answers)

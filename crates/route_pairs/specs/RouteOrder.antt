@@ -69,6 +69,6 @@ module _ (text : IdentityPlace → List ℕ) (p rows : List ℕ) where
 abbrev pub DecidesAt : (ℕ → List Check) → ℕ → ℕ → Type 0
 DecidesAt f n i = first (run f 0 n) ≡ cond (ltb i n) (first (f i)) Passed
 
--- record i is the first route at fault
+-- record i is the first route at fault, or the number of records where none is
 abbrev pub FirstFault : Routes → ℕ → Type 0
 FirstFault r i = DecidesAt (route_record_checks (text_of r) r.pack.bytes.now) (records_of r.pack.bytes.now) i

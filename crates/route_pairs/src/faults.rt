@@ -5,13 +5,14 @@ ghost use Rattle.route_pairs.specs.RouteOrder.{text_of, boundary_at, routes_of, 
 use crate::{Half, Routes, is_half};
 use identity::ByteOrder;
 use identity::compare::compare_places;
+use schema::lent::PACK_LIMIT;
 use schema::rows::RouteImage;
 use std::cmp::Ordering;
 
 // Up to so many routes are sorted in an array of this size, and more in one for as many records as a pack has.
 const SOME_ROUTES: usize = 1024;
 
-const MAX_ROUTES: usize = 65536;
+const MAX_ROUTES: usize = PACK_LIMIT / 64;
 
 // Whether two routes of one boundary are its two halves.
 fn are_halves(a: RouteImage, b: RouteImage) -> bool
@@ -125,7 +126,7 @@ impl<'a> Routes<'a> {
         self.least_misfit(rows)
     }
 
-    // The same for at most ROOM routes, whose array is in no caller's frame.
+    // With room for ROOM routes, in a frame of its own: packs with fewer do not pay for it.
     #[inline(never)]
     fn first_fault_within<const ROOM: usize>(self, routes: usize) -> usize
         requires all { routes ≡ length (routes_of self.pack.bytes.now) }

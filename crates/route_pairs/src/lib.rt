@@ -1,8 +1,6 @@
 // The routes of a federate, each against all of its boundary.
 #![tactic(auto)]
 
-mod faults;
-
 ghost use Rattle.std.specs.Prelude.{◌≡◌, ◌/◌, ◌<◌, length};
 ghost use Rattle.identity.specs.Text.{identity_text};
 ghost use Rattle.identity.specs.Order.{compared};
@@ -11,6 +9,8 @@ ghost use Rattle.schema.specs.Records.{records_of};
 ghost use Rattle.checks.specs.Identities.{is_equal};
 ghost use Rattle.route_pairs.specs.RoutePairs.{is_half, half_at, halves, pair_checks, route_record_checks};
 ghost use Rattle.route_pairs.specs.RouteOrder.{text_of};
+
+mod faults;
 
 use answers::{Outcome, Refusal, field};
 use identity::ByteOrder;
