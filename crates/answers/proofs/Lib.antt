@@ -1,5 +1,4 @@
 pub mod Laws
-pub mod Quick
 pub mod Loops
 pub mod Looser
 pub mod Slots

@@ -2,13 +2,10 @@
 use mathlib.Core.Bool.{Bool, true, false, ◌&&◌, and_assoc, true≢false}
 use mathlib.Core.Path.{◌≡◌, refl, ◌∙◌, ap, sym}
 use mathlib.Core.List.{List, [], ◌∷◌, ◌++◌}
+use Rattle.identity.proofs.Tests.{cases}
 use Rattle.answers.specs.declared.Outcome.TheVariants.{Passed}
 use Rattle.answers.specs.Checks.{Check, need, first}
 use Rattle.answers.specs.Slots.{is_slot, without_slots, slots_hold}
-
-cases : {A : Type 0} (b : Bool) → (b ≡ true → A) → (b ≡ false → A) → A
-cases true f g = f refl
-cases false f g = g refl
 
 -- what passes, passes without the slot checks, and its slot checks hold
 pub passes-without : (cs : List Check) → first cs ≡ Passed → (first (without_slots cs) ≡ Passed) × (slots_hold cs ≡ true)
@@ -32,13 +29,7 @@ passes-with (need false r ∷ cs) e h =
     (λ t. let x = rw t at h in absurd (true≢false (sym x)))
     (λ f. let x = rw f at e in let z : ◌≡◌ {A = Bool} true false = cc in absurd (true≢false z))
 
--- the lists of a run, one after the other
-pub without-append : (xs ys : List Check) → without_slots (xs ++ ys) ≡ without_slots xs ++ without_slots ys
-unfolding without_slots
-without-append [] ys = refl
-without-append (need b r ∷ xs) ys =
-    cases (is_slot r) (λ t. rw t (without-append xs ys)) (λ f. rw f (ap (need b r ∷◌) (without-append xs ys)))
-
+-- of two lists, one after the other
 pub slots-append : (xs ys : List Check) → slots_hold (xs ++ ys) ≡ (slots_hold xs && slots_hold ys)
 unfolding slots_hold
 slots-append [] ys = refl

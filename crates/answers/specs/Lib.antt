@@ -2,5 +2,4 @@ pub mod Fields
 pub mod Numbers
 pub mod Listed
 pub mod Checks
-pub mod PassesIf
 pub mod Slots

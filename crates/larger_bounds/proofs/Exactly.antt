@@ -15,7 +15,7 @@ use Rattle.row_checks.specs.Reactors.{reactor_checks}
 use Rattle.row_checks.specs.Actions.{action_checks}
 use Rattle.enclave.specs.Passes.{enclave_checks}
 use Rattle.larger_bounds.specs.Images.{SlotsBelow, AcceptedExactly}
-use Rattle.larger_bounds.proofs.Tests.{both}
+use Rattle.identity.proofs.Tests.{both}
 use Rattle.larger_bounds.proofs.SlotTests.{reactor-slots, action-slots, enclave-slots}
 
 -- the slot checks of a run hold exactly where those of each of its lists do

@@ -10,21 +10,21 @@ use Rattle.answers.specs.Checks.{first}
 use Rattle.answers.specs.Slots.{SlotRefusal}
 use Rattle.answers.proofs.Looser.{Looser, done, looser-same, looser-append, looser-run, looser-stays}
 use Rattle.schema.specs.Rows.{byte_of, federate_at}
-use Rattle.schema.specs.Records.{records_of}
+use Rattle.schema.specs.Records.{records_of, is_of}
 use Rattle.scope_checks.specs.Links.{links}
 use Rattle.enclave.specs.Passes.{enclave_checks}
-use Rattle.federate.specs.Records.{is_of, enclaves_of}
+use Rattle.federate.specs.Records.{enclaves_of}
 use Rattle.federate.specs.Enclaves.{image_at, order_checks, record_checks, links_before}
 use Rattle.route_pairs.specs.RoutePairs.{route_record_checks}
 use Rattle.federate.specs.Federate.{metadata_checks, count_check, federate_checks}
-use Rattle.federate.specs.Answer.{federate_answer}
+use Rattle.federate.specs.Answer.{packed_answer, federate_answer}
 use Rattle.larger_bounds.specs.Packs.{DifferInStorage, NoBoundSmaller, SlotAnswer}
 use Rattle.larger_bounds.specs.Federates.{FederatePacked, FederateAnswerStays}
 use Rattle.larger_bounds.proofs.Packed.{federate-first}
 use Rattle.larger_bounds.proofs.SamePacks.{identity-same}
 use Rattle.larger_bounds.proofs.PacksLarger.{pack-looser, pack-links}
 use Rattle.larger_bounds.proofs.Parts.{own-single, own-state, own-action}
-use Rattle.larger_bounds.proofs.Tests.{cases}
+use Rattle.identity.proofs.Tests.{cases}
 use Rattle.larger_bounds.proofs.SameFederates.{test-same, records-same, enclaves-same, count_same, before_same, parts-differ, federate-same, routes-same}
 
 module _ (p q batch house : List ℕ) (d : DifferInStorage p q) (b : NoBoundSmaller p q) where
@@ -73,11 +73,11 @@ module _ (p q batch house : List ℕ) (d : DifferInStorage p q) (b : NoBoundSmal
         (looser-run _ _ route-looser 0 (records_of p)))))
 
 slot-answer : (p batch house : List ℕ) → FederatePacked p batch house → SlotRefusal (first (federate_checks p batch house)) → SlotAnswer (federate_answer p batch house)
-unfolding federate_answer numbers
+unfolding federate_answer packed_answer numbers
 slot-answer p batch house h (t, i, s, k, e) = rw (h, e)
 
 pub federate-stays : FederateAnswerStays
-unfolding federate_answer
+unfolding federate_answer packed_answer
 federate-stays p q batch house h k d b o =
     let z = federate-first p batch house h in
     let l = federate-looser p q batch house d b z in

@@ -1,10 +1,8 @@
-pub mod Tests
 pub mod Larger
 pub mod SlotTests
 pub mod Exactly
 pub mod RowBytes
 pub mod Packed
-pub mod TableRows
 pub mod SamePacks
 pub mod PacksLarger
 pub mod PacksExactly

@@ -1,29 +1,18 @@
 -- What the packing rules say of the tables of a pack's records. Assumes nothing.
 use Prim.Native.Nat.{ℕ, suc, ◌/◌, ◌<◌, ◌≤◌}
-use mathlib.Core.Bool.{Bool, true, false, cond}
-use mathlib.Core.Path.{◌≡◌, refl}
+use mathlib.Core.Path.{◌≡◌}
 use mathlib.Core.List.{List}
 use native.Mathlib.Decide.{dec_le}
 use native.Mathlib.Omega.{arith}
-use lib.Dec.{ltb}
 use lib.ListN.{length, get_or-eq_default}
-use borrow.Author.Tests.{ltb-false, eqb-true}
+use borrow.Author.Tests.{eqb-true}
 use Rattle.schema.specs.Rows.{byte_of}
 use Rattle.packing.specs.declared.PackKind.TheVariants.{Enclave, Federate}
-use Rattle.schema.specs.Records.{records_of}
 use Rattle.packing.proofs.Packed.{fits, placed-at, rows_above}
 use Rattle.larger_bounds.specs.Packs.{Packed}
 use Rattle.larger_bounds.specs.Federates.{FederatePacked}
 
 module _ (p batch house : List ℕ) (h : Packed p batch house) where
-  -- as many records as the pack's length says
-  pub records : records_of p ≡ length p / 64
-  records = go (ltb (length p / 64) 65536) refl
-    where
-      go : (b : Bool) → ltb (length p / 64) 65536 ≡ b → cond b (length p / 64) 65536 ≡ length p / 64
-      go true e = refl
-      go false e = let f = fits Enclave p batch house h in let g = ltb-false (length p / 64) 65536 e in omega arith
-
   -- record 0 is the enclave's
   pub enclave-first : 0 < length p / 64 → byte_of p 0 0 ≡ 1
   enclave-first l = eqb-true (byte_of p 0 0) 1 (placed-at Enclave p batch house h 0 l)

@@ -1,24 +1,27 @@
 -- An enclave pack is accepted exactly when it is without the slot checks and every slot used is below its bound. Assumes nothing.
-use Prim.Native.Nat.{ℕ, ◌+◌, ◌-◌, ◌≤◌}
+use Prim.Native.Nat.{ℕ, zero, suc, ◌+◌, ◌-◌, ◌/◌, ◌<◌, ◌≤◌}
 use mathlib.Core.Path.{◌≡◌, refl, ap}
 use mathlib.Core.List.{List, [], ◌∷◌}
 use native.Mathlib.Omega.{arith}
-use lib.ListN.{get_or}
+use lib.ListN.{length, get_or}
 use Rattle.answers.specs.declared.Outcome.{Outcome}
 use Rattle.answers.specs.declared.Outcome.TheVariants.{Passed, Refused}
 use Rattle.answers.specs.Numbers.{numbers}
 use Rattle.answers.specs.Checks.{first}
 use Rattle.answers.specs.Slots.{without_slots}
 use Rattle.answers.proofs.RefusalNumbers.{number-positive}
+use Rattle.schema.specs.Rows.{byte_of}
+use Rattle.schema.specs.Tables.{start_of, rows_of}
 use Rattle.packing.specs.Starts.{table_starts}
-use Rattle.checks.specs.Image.{Image, start_of}
+use Rattle.packing.proofs.TableRows.{rows_by_byte}
+use Rattle.checks.specs.Image.{Image}
 use Rattle.scope_checks.specs.Links.{links}
 use Rattle.enclave.specs.Passes.{enclave_checks}
 use Rattle.enclave.specs.Answer.{unless, image_answer, pack_image, enclave_answer}
 use Rattle.larger_bounds.specs.Images.{SlotsBelow}
 use Rattle.larger_bounds.specs.Packs.{Packed, answer_without_slots, SlotsUsedBelow, EnclaveAcceptedExactly}
 use Rattle.larger_bounds.proofs.Exactly.{accepted-exactly}
-use Rattle.larger_bounds.proofs.TableRows.{row_is, record_is}
+use Rattle.larger_bounds.proofs.Packed.{has-enclave}
 
 -- an answer that is acceptance is no refusal's
 accepted-passed : (o : Outcome) (ns : List ℕ) (n : ℕ) → unless o ns ≡ 0 ∷ n ∷ [] → (o ≡ Passed) × (ns ≡ 0 ∷ n ∷ [])
@@ -31,19 +34,27 @@ module _ (p batch house : List ℕ) (h : Packed p batch house) where
   abbrev m : Image
   m = pack_image p batch house
 
-  start-to : (t n : ℕ) → start_of (table_starts p 1) t ≤ n → start_of (table_starts p 1) t + (n - start_of (table_starts p 1) t) ≡ n
-  start-to t n l = omega arith
+  abbrev start : ℕ → ℕ
+  start t = start_of (table_starts p 1) t
+
+  -- row i of table t is a record of it, and a record of a table of rows is such a row
+  row_at : (t i : ℕ) → t < 25 → i < rows_of (table_starts p 1) t → (start t + i < length p / 64) × (byte_of p (start t + i) 0 ≡ t)
+  row_at t i k l = let r = (rows_by_byte p batch house h t (start t + i) k).0 (omega arith, omega arith) in (r.1, r.2)
+
+  record_at : (t n : ℕ) → 2 ≤ t → t < 25 → n < length p / 64 → byte_of p n 0 ≡ t → (n - start t < rows_of (table_starts p 1) t) × (start t + (n - start t) ≡ n)
+  record_at t zero g k l e = let z = has-enclave p batch house h in absurd (omega arith)
+  record_at t (suc n) g k l e = let r = (rows_by_byte p batch house h t (suc n) k).1 (omega arith, l, e) in (omega (arith, r.0, r.1), omega (arith, r.0))
 
   used-slots : SlotsUsedBelow p → SlotsBelow m
   used-slots u = (
-    (λ i l. let r = row_is p batch house h 2 i (omega arith) l in (u (start_of (table_starts p 1) 2 + i) r.0).0 r.1),
-    (λ i l. let r = row_is p batch house h 3 i (omega arith) l in (u (start_of (table_starts p 1) 3 + i) r.0).1 r.1),
+    (λ i l. let r = row_at 2 i (omega arith) l in (u (start 2 + i) r.0).0 r.1),
+    (λ i l. let r = row_at 3 i (omega arith) l in (u (start 3 + i) r.0).1 r.1),
   )
 
   slots-used : SlotsBelow m → SlotsUsedBelow p
   slots-used b n l = (
-    (λ e. let r = record_is p batch house h 2 n (omega arith) (omega arith) l e in rw (start-to 2 n r.0) at (b.0 (n - start_of (table_starts p 1) 2) (omega arith))),
-    (λ e. let r = record_is p batch house h 3 n (omega arith) (omega arith) l e in rw (start-to 3 n r.0) at (b.1 (n - start_of (table_starts p 1) 3) (omega arith))),
+    (λ e. let r = record_at 2 n (omega arith) (omega arith) l e in rw r.1 at (b.0 (n - start 2) r.0)),
+    (λ e. let r = record_at 3 n (omega arith) (omega arith) l e in rw r.1 at (b.1 (n - start 3) r.0)),
   )
 
   accepted : (n : ℕ) → enclave_answer p batch house ≡ 0 ∷ n ∷ [] → (answer_without_slots p batch house ≡ 0 ∷ n ∷ []) × SlotsUsedBelow p

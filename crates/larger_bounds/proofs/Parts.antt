@@ -10,10 +10,10 @@ use lib.ListN.{length, get_or, drop, length-take, get_or-eq_default}
 use lib.Seq.{get_or-take, get_or-drop}
 use borrow.Author.Tests.{eq-eqb}
 use Rattle.schema.specs.Rows.{byte_of, enclave_at}
-use Rattle.schema.specs.Records.{records_of}
-use Rattle.federate.specs.Records.{is_of, enclave_from, enclave_end, enclave_pack}
+use Rattle.schema.specs.Records.{records_of, is_of}
+use Rattle.federate.specs.Records.{enclave_from, enclave_end, enclave_pack}
 use Rattle.larger_bounds.specs.Packs.{state_bound, action_bound}
-use Rattle.larger_bounds.proofs.Tests.{cases}
+use Rattle.identity.proofs.Tests.{cases}
 use Rattle.larger_bounds.proofs.RowBytes.{number_same}
 
 -- no record between an enclave's own and its end is an enclave's

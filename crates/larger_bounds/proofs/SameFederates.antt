@@ -11,15 +11,14 @@ use Rattle.identity.specs.declared.IdentityPlace.{IdentityPlace}
 use Rattle.schema.specs.declared.rows.RouteImage.{RouteImage}
 use Rattle.schema.specs.Layout as layout
 use Rattle.schema.specs.Rows.{byte_of, federate_of, route_of, federate_at, route_at}
-use Rattle.schema.specs.Records.{records_of}
-use Rattle.federate.specs.declared.route_pairs.Half.{Half}
-use Rattle.federate.specs.Records.{is_of, count_below, enclaves_before, enclaves_of, enclave_before, enclave_from, enclave_end, enclave_pack}
+use Rattle.schema.specs.Records.{records_of, is_of, count_below}
+use Rattle.federate.specs.Records.{enclaves_before, enclaves_of, enclave_before, enclave_from, enclave_end, enclave_pack}
 use Rattle.route_pairs.specs.RoutePairs.{half_at, halves, pair_checks, route_record_checks}
 use Rattle.larger_bounds.specs.Packs.{StorageByte, DifferInStorage}
 use Rattle.larger_bounds.proofs.RowBytes.{row_same}
 use Rattle.larger_bounds.proofs.SamePacks.{table_same, record_same}
 use Rattle.larger_bounds.proofs.Parts.{many, byte_inside, byte-outside}
-use Rattle.larger_bounds.proofs.Tests.{cases}
+use Rattle.identity.proofs.Tests.{cases}
 
 module _ (p q : List ℕ) (d : DifferInStorage p q) where
   tests : (t : ℕ) → is_of q t ≡ is_of p t
@@ -85,12 +84,12 @@ module _ (p q : List ℕ) (d : DifferInStorage p q) where
 
   -- the routes
   module _ (text : IdentityPlace → List ℕ) where
-    half-same : (r : RouteImage) (half : Half) (k : ℕ) → half_at text q r half k ≡ half_at text p r half k
+    half-same : (r : RouteImage) (half : _) (k : ℕ) → half_at text q r half k ≡ half_at text p r half k
     half-same r half k =
         rw (test-same 23 k)
         (cases (is_of p 23 k) (λ e. rw (e, route-same k e)) (λ e. rw e))
 
-    halves-same : (r : RouteImage) (half : Half) → halves text q r half ≡ halves text p r half
+    halves-same : (r : RouteImage) (half : _) → halves text q r half ≡ halves text p r half
     halves-same r half =
         ap (λ (f : ℕ → Bool). count_below f (records_of q)) (fun_ext (half-same r half))
         ∙ ap (count_below (half_at text p r half)) records-same

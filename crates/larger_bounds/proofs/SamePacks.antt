@@ -13,9 +13,10 @@ use Rattle.schema.specs.Layout.{Layout}
 use Rattle.schema.specs.Rows.{byte_of, row, reactor_of, action_of, port_of, reaction_of, mode_of, scope_of, index_of, level_of, startup_of, lifecycle_of, route_of, binding_of, enclave_at, reactor_at, action_at, port_at, reaction_at, mode_at, scope_at, index_at, level_at, startup_at, lifecycle_at, route_at, binding_at}
 use Rattle.packing.specs.Shape.{used}
 use Rattle.schema.specs.Records.{records_of}
+use Rattle.schema.specs.Tables.{start_of, rows_of}
 use Rattle.packing.specs.Starts.{first_reaching, starts_below, table_starts}
 use Rattle.packing.proofs.TableStarts.{starts_from}
-use Rattle.checks.specs.Image.{Image, image, action_part, reaction_part, route_part, start_of, rows_of}
+use Rattle.checks.specs.Image.{Image, image, action_part, reaction_part, route_part}
 use Rattle.larger_bounds.specs.Images.{with_bounds}
 use Rattle.larger_bounds.specs.Packs.{DifferInStorage, state_bound, action_bound}
 use Rattle.larger_bounds.proofs.RowBytes.{number_same, row_same}
