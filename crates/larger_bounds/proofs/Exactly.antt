@@ -34,10 +34,14 @@ each-run f i (suc n) h =
     ∙ rw (h i (omega arith) (omega arith), each-run f (suc i) n (λ k l u. h k (omega arith) (omega arith)))
 
 -- n rows whose slots are below the bound
-rows-below : (f : ℕ → List Check) (slot : ℕ → ℕ) (bound n : ℕ) → ((i : ℕ) → slots_hold (f i) ≡ ltb (slot i) bound) → slots_hold (run f 0 n) ≡ true → (i : ℕ) → i < n → slot i < bound
+rows-below :
+    (f : ℕ → List Check) (slot : ℕ → ℕ) (bound n : ℕ) → ((i : ℕ) → slots_hold (f i) ≡ ltb (slot i) bound)
+    → slots_hold (run f 0 n) ≡ true → (i : ℕ) → i < n → slot i < bound
 rows-below f slot bound n e h i l = ltb-true (slot i) bound (sym (e i) ∙ run-each f 0 n h i (omega arith) (omega arith))
 
-below_rows : (f : ℕ → List Check) (slot : ℕ → ℕ) (bound n : ℕ) → ((i : ℕ) → slots_hold (f i) ≡ ltb (slot i) bound) → ((i : ℕ) → i < n → slot i < bound) → slots_hold (run f 0 n) ≡ true
+below_rows :
+    (f : ℕ → List Check) (slot : ℕ → ℕ) (bound n : ℕ) → ((i : ℕ) → slots_hold (f i) ≡ ltb (slot i) bound)
+    → ((i : ℕ) → i < n → slot i < bound) → slots_hold (run f 0 n) ≡ true
 below_rows f slot bound n e h = each-run f 0 n (λ i l u. e i ∙ lt-ltb (slot i) bound (h i (omega arith)))
 
 module _ (m : Image) where

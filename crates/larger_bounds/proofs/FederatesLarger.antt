@@ -72,7 +72,9 @@ module _ (p q batch house : List ℕ) (d : DifferInStorage p q) (b : NoBoundSmal
         (looser-append (looser-run _ _ (record-looser (federate_at p 0).enclaves.0.start) 0 (records_of p))
         (looser-run _ _ route-looser 0 (records_of p)))))
 
-slot-answer : (p batch house : List ℕ) → FederatePacked p batch house → SlotRefusal (first (federate_checks p batch house)) → SlotAnswer (federate_answer p batch house)
+slot-answer :
+    (p batch house : List ℕ) → FederatePacked p batch house → SlotRefusal (first (federate_checks p batch house))
+    → SlotAnswer (federate_answer p batch house)
 unfolding federate_answer packed_answer numbers
 slot-answer p batch house h (t, i, s, k, e) = rw (h, e)
 

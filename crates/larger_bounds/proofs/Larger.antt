@@ -9,17 +9,10 @@ use lib.ListN.{drop}
 use borrow.Author.Tests.{ltb-true, lt-ltb}
 use Rattle.answers.proofs.Looser.{Looser, same, slot, looser-same, looser-append, looser-run, looser-stays}
 use Rattle.checks.specs.Image.{Image}
-use Rattle.row_checks.specs.Bindings.{binding_checks}
-use Rattle.row_checks.specs.Reactors.{slot_checks, reactor_row, reactor_checks}
-use Rattle.row_checks.specs.Actions.{action_row, action_checks}
-use Rattle.row_checks.specs.Ports.{port_row, port_checks}
-use Rattle.row_checks.specs.Reactions.{reaction_owner_checks, reaction_row, reaction_checks}
-use Rattle.row_checks.specs.Modes.{mode_row, mode_checks}
-use Rattle.scope_checks.specs.Scopes.{scope_owner_checks, scope_row_checks, scope_checks}
-use Rattle.scope_checks.specs.Links.{cycle_checks}
-use Rattle.list_checks.specs.ListTables.{index_checks, startup_checks, action_trigger_checks, port_trigger_checks, enabled_modes_checks, scope_list_checks, level_entry_checks, lifecycle_entry_checks, shutdown_action_checks}
-use Rattle.list_checks.specs.Routes.{route_checks, binding_id_checks}
-use Rattle.enclave.specs.Passes.{Pass, length_checks, head_passes, row_passes, scope_passes, reaction_list_passes, scope_list_passes, entry_passes, enclave_list_passes, passes, pass_checks, checks_of, enclave_checks}
+use Rattle.row_checks.specs.Reactors.{reactor_checks}
+use Rattle.row_checks.specs.Actions.{action_checks}
+use Rattle.enclave.specs.Passes.{Pass, passes, pass_checks, checks_of, enclave_checks}
+use Rattle.larger_bounds.proofs.Opened.{the_passes, the_rows, the_lists, the_parts}
 use Rattle.larger_bounds.specs.Images.{with_bounds, LargerBounds, SameLinks}
 
 larger : (k : ℕ) {a b : ℕ} → a ≤ b → ltb k a ≡ true → ltb k b ≡ true
@@ -30,25 +23,27 @@ module _ (m : Image) (state action : ℕ) where
   looser = with_bounds m state action
 
   reactor-looser : (i : ℕ) → m.state_slots ≤ state → Looser (reactor_checks m i) (reactor_checks looser i)
-  unfolding reactor_checks reactor_row binding_checks slot_checks
+  unfolding the_rows the_parts
   reactor-looser i h = same (same (slot (larger _ h) (looser-same _)))
 
   action-looser : (i : ℕ) → m.action_slots ≤ action → Looser (action_checks m i) (action_checks looser i)
-  unfolding action_checks action_row slot_checks
+  unfolding the_rows the_parts
   action-looser i h = same (slot (larger _ h) (looser-same _))
 
   -- pass by pass
-  pass-looser : (f : Pass) (fs : List Pass) → ((i : ℕ) → Looser (f.checks m i) (f.checks looser i)) → Looser (checks_of m fs) (checks_of looser fs) → Looser (checks_of m (f ∷ fs)) (checks_of looser (f ∷ fs))
+  pass-looser :
+      (f : Pass) (fs : List Pass) → ((i : ℕ) → Looser (f.checks m i) (f.checks looser i))
+      → Looser (checks_of m fs) (checks_of looser fs) → Looser (checks_of m (f ∷ fs)) (checks_of looser (f ∷ fs))
   unfolding checks_of pass_checks
   pass-looser f fs h l = looser-append (looser-run (f.checks m) (f.checks looser) h 0 (f.items m.rows)) l
 
   -- the passes after those over reactors and actions look at no bound
   others_same : Looser (checks_of m (drop 5 passes)) (checks_of looser (drop 5 passes))
-  unfolding checks_of pass_checks passes head_passes row_passes scope_passes reaction_list_passes scope_list_passes entry_passes enclave_list_passes port_row port_checks reaction_owner_checks reaction_row reaction_checks mode_row mode_checks scope_owner_checks scope_row_checks scope_checks cycle_checks index_checks startup_checks action_trigger_checks port_trigger_checks enabled_modes_checks scope_list_checks level_entry_checks lifecycle_entry_checks shutdown_action_checks route_checks binding_id_checks
+  unfolding checks_of pass_checks the_passes the_rows the_lists
   others_same = looser-same _
 
   pub enclave-looser : m.state_slots ≤ state → m.action_slots ≤ action → Looser (enclave_checks m) (enclave_checks looser)
-  unfolding enclave_checks passes head_passes row_passes length_checks
+  unfolding enclave_checks the_passes the_lists
   enclave-looser h g =
       pass-looser _ _ (λ i. looser-same _)
       (pass-looser _ _ (λ i. looser-same _)

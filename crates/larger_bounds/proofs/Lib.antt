@@ -1,3 +1,4 @@
+pub mod Opened
 pub mod Larger
 pub mod SlotTests
 pub mod Exactly

@@ -9,27 +9,19 @@ use Rattle.answers.proofs.Looser.{Looser, looser-stays}
 use Rattle.schema.specs.Rows.{byte_of}
 use Rattle.packing.specs.Starts.{table_starts}
 use Rattle.checks.specs.Image.{Image, image}
-use Rattle.checks.specs.Lists.{level_checks, lifecycle_checks, levels_checks, lifecycles_checks}
-use Rattle.row_checks.specs.Reactors.{reactor_row, reactor_checks}
-use Rattle.row_checks.specs.Actions.{action_row, action_checks}
-use Rattle.row_checks.specs.Ports.{port_row, port_checks}
-use Rattle.row_checks.specs.Reactions.{reaction_owner_checks, reaction_row, reaction_checks}
-use Rattle.row_checks.specs.Modes.{mode_row, mode_checks}
-use Rattle.scope_checks.specs.Scopes.{scope_owner_checks, scope_row_checks, scope_checks}
-use Rattle.scope_checks.specs.Links.{cycle_checks, links}
-use Rattle.list_checks.specs.ListTables.{index_checks, startup_checks, action_trigger_checks, port_trigger_checks, enabled_mode_checks, enabled_modes_checks, scope_list_checks, level_entry_checks, lifecycle_entry_checks, shutdown_action_checks}
-use Rattle.list_checks.specs.Routes.{route_checks, binding_id_checks}
-use Rattle.enclave.specs.Passes.{length_checks, head_passes, row_passes, scope_passes, reaction_list_passes, scope_list_passes, entry_passes, enclave_list_passes, passes, pass_checks, checks_of, enclave_checks}
+use Rattle.scope_checks.specs.Links.{links}
+use Rattle.enclave.specs.Passes.{pass_checks, checks_of, enclave_checks}
 use Rattle.enclave.specs.Answer.{image_answer, pack_image, enclave_answer}
 use Rattle.larger_bounds.specs.Images.{with_bounds}
 use Rattle.larger_bounds.specs.Packs.{Packed, state_bound, action_bound, DifferInStorage, SlotAnswer, EnclaveAnswerStays}
+use Rattle.larger_bounds.proofs.Opened.{the_passes, the_rows, the_lists}
 use Rattle.larger_bounds.proofs.Larger.{enclave-looser}
 use Rattle.larger_bounds.proofs.Packed.{one-enclave, has-enclave}
 use Rattle.larger_bounds.proofs.SamePacks.{in_tables, starts-same, image-same}
 
 -- the checks look at no list but those of the tables
 in-tables-same : (m : Image) → enclave_checks (in_tables m) ≡ enclave_checks m
-unfolding enclave_checks checks_of pass_checks passes head_passes row_passes scope_passes reaction_list_passes scope_list_passes entry_passes enclave_list_passes length_checks reactor_row reactor_checks action_row action_checks port_row port_checks reaction_owner_checks reaction_row reaction_checks mode_row mode_checks scope_owner_checks scope_row_checks scope_checks cycle_checks index_checks startup_checks level_checks lifecycle_checks levels_checks lifecycles_checks action_trigger_checks port_trigger_checks enabled_modes_checks scope_list_checks enabled_mode_checks level_entry_checks lifecycle_entry_checks shutdown_action_checks route_checks binding_id_checks
+unfolding enclave_checks checks_of pass_checks the_passes the_rows the_lists
 in-tables-same m = refl
 
 -- a slot refusal of the checks is one of the answer
@@ -49,7 +41,9 @@ module _ (p q batch house : List ℕ) (d : DifferInStorage p q) (single : (n : �
       ∙ ap enclave_checks (image-same p q d batch house single)
 
   -- the checks of the one with the larger bounds are looser
-  pub pack-looser : state_bound p 0 ≤ state_bound q 0 → action_bound p 0 ≤ action_bound q 0 → Looser (enclave_checks m) (enclave_checks (pack_image q batch house))
+  pub pack-looser :
+      state_bound p 0 ≤ state_bound q 0 → action_bound p 0 ≤ action_bound q 0
+      → Looser (enclave_checks m) (enclave_checks (pack_image q batch house))
   pack-looser h g = rw (checks-same, ← in-tables-same m) (enclave-looser (in_tables m) (state_bound q 0) (action_bound q 0) h g)
 
   pub pack-links : links (pack_image q batch house) ≡ links m
@@ -57,7 +51,9 @@ module _ (p q batch house : List ℕ) (d : DifferInStorage p q) (single : (n : �
       ap (λ x. links (image q batch house x)) (starts-same p q d 1)
       ∙ ap links (image-same p q d batch house single)
 
-  pub pack-stays : state_bound p 0 ≤ state_bound q 0 → action_bound p 0 ≤ action_bound q 0 → (SlotAnswer (image_answer m) → ⊥) → image_answer (pack_image q batch house) ≡ image_answer m
+  pub pack-stays :
+      state_bound p 0 ≤ state_bound q 0 → action_bound p 0 ≤ action_bound q 0 → (SlotAnswer (image_answer m) → ⊥)
+      → image_answer (pack_image q batch house) ≡ image_answer m
   unfolding image_answer
   pack-stays h g o = rw (looser-stays (pack-looser h g) (λ r. o (slot-answer m r)), pack-links)
 

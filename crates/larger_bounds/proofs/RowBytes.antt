@@ -31,7 +31,9 @@ module _ (p q : List ℕ) (n m : ℕ) where
       let f : n * 64 + o + k ≡ n * 64 + (o + k) = omega arith in
       rw (number_same k o (λ j l. h j (omega arith)), e, f, h (o + k) (omega arith))
 
-  pub row_same : {A : Type 0} (of : (ℕ → ℕ) → ℕ → ℕ → A) (l : Layout) → used l ≤ 64 → ((j : ℕ) → j < 68 → byte_of q m j ≡ byte_of p n j) → row of l q m ≡ row of l p n
+  pub row_same :
+      {A : Type 0} (of : (ℕ → ℕ) → ℕ → ℕ → A) (l : Layout) → used l ≤ 64 → ((j : ℕ) → j < 68 → byte_of q m j ≡ byte_of p n j)
+      → row of l q m ≡ row of l p n
   row_same of l u h =
       let fields : field q m l ≡ field p n l = fun_ext (λ k. number_same (bytes (field_at l k)) (offset l k) (λ j i. h j (let e = field_end 4 l.fields k in omega arith))) in
       rw (fields, h 1 (omega arith), h 2 (omega arith))

@@ -20,24 +20,15 @@ use Rattle.schema.specs.declared.index.MaybeBinding.{MaybeBinding}
 use Rattle.schema.specs.declared.index.MaybeBinding.TheVariants.{NoBinding, Binding}
 use Rattle.schema.specs.declared.rows.ModeImage.{ModeImage}
 use Rattle.schema.specs.declared.rows.RequiredBindingImage.{RequiredBindingImage}
-use Rattle.schema.specs.declared.lists.LevelReactionImage.{LevelReactionImage}
-use Rattle.schema.specs.declared.lists.LifecycleReactionImage.{LifecycleReactionImage}
 use Rattle.range.specs.declared.IndexSpan.{IndexSpan}
-use Rattle.checks.specs.Image.{Image, ReactionPart}
-use Rattle.checks.specs.Refs.{span_checks}
-use Rattle.checks.specs.Lists.{level_checks, lifecycle_checks, levels_checks, lifecycles_checks}
+use Rattle.checks.specs.Image.{Image}
 use Rattle.row_checks.specs.Bindings.{binding_checks}
-use Rattle.row_checks.specs.Reactors.{slot_checks, root_scope_checks, initial_mode_checks, bank_checks, reactor_row, reactor_checks}
-use Rattle.row_checks.specs.Actions.{action_binding_checks, action_row, action_checks}
-use Rattle.row_checks.specs.Ports.{port_row, port_checks}
-use Rattle.row_checks.specs.Reactions.{effect_checks, reaction_owner_checks, reaction_range_checks as four_range_checks, reaction_row, reaction_checks}
-use Rattle.row_checks.specs.Modes.{mode_owner_checks, mode_row, mode_checks}
-use Rattle.scope_checks.specs.Ends.{member_range_checks, reaction_range_checks}
-use Rattle.scope_checks.specs.Scopes.{parent_checks, scope_mode_checks, scope_owner_checks, scope_row_checks, scope_checks}
-use Rattle.scope_checks.specs.Links.{cycle_checks}
-use Rattle.list_checks.specs.ListTables.{index_checks, startup_checks, action_trigger_checks, port_trigger_checks, enabled_mode_checks, enabled_modes_checks, scope_list_checks, level_entry_checks, lifecycle_entry_checks, index_order_checks, shutdown_action_checks}
-use Rattle.list_checks.specs.Routes.{route_order_checks, route_row, route_checks, binding_id_row, binding_id_checks}
-use Rattle.enclave.specs.Passes.{Pass, head_passes, row_passes, scope_passes, reaction_list_passes, scope_list_passes, entry_passes, enclave_list_passes, passes, over, times, length_checks, root_checks, enclave_id_checks, pass_checks, checks_of, enclave_checks}
+use Rattle.row_checks.specs.Reactors.{initial_mode_checks, bank_checks, reactor_checks}
+use Rattle.row_checks.specs.Actions.{action_binding_checks, action_checks}
+use Rattle.row_checks.specs.Reactions.{effect_checks}
+use Rattle.scope_checks.specs.Scopes.{parent_checks, scope_mode_checks}
+use Rattle.larger_bounds.proofs.Opened.{the_passes, the_rows, the_lists, the_parts}
+use Rattle.enclave.specs.Passes.{Pass, passes, over, times, length_checks, root_checks, enclave_id_checks, pass_checks, checks_of, enclave_checks}
 
 -- no check of the list is a slot check
 data Plain : List Check → Type 0 where
@@ -73,7 +64,9 @@ unfolding bank_checks is_slot numbers
 bank i NoBank = none
 bank i (Bank b) = more refl none
 
-action-binding : (rows : ℕ → ℕ) (bindings : ℕ → RequiredBindingImage) (i : ℕ) (standard : Bool) (b : MaybeBinding) → Plain (action_binding_checks rows bindings i standard b)
+action-binding :
+    (rows : ℕ → ℕ) (bindings : ℕ → RequiredBindingImage) (i : ℕ) (standard : Bool) (b : MaybeBinding)
+    → Plain (action_binding_checks rows bindings i standard b)
 unfolding action_binding_checks binding_checks is_slot numbers
 action-binding rows bindings i true (Binding b) = more refl (more refl none)
 action-binding rows bindings i true NoBinding = more refl none
@@ -97,84 +90,22 @@ scope-mode rows modes i reactor (Mode m) = more refl (more refl none)
 
 ruleset plain-laws = (none, more, plain-append, plain-run, plain-cond)
 
--- the entries of lists of reactions
-module _ (rows : ℕ → ℕ) (reactions : ℕ → ReactionPart) (t start : ℕ) where
-  levels-plain : (levels : ℕ → ℕ → LevelReactionImage) (len : ℕ) → Plain (levels_checks rows reactions levels t start len)
-  unfolding levels_checks level_checks is_slot numbers
-  levels-plain levels len = search plain-laws depth 20
-
-  lifecycle-plain : (lifecycles : ℕ → ℕ → LifecycleReactionImage) (k : ℕ) → Plain (lifecycle_checks rows reactions lifecycles t start k)
-  unfolding lifecycle_checks is_slot numbers
-  lifecycle-plain lifecycles k = search plain-laws depth 20
-
-  lifecycles-plain : (lifecycles : ℕ → ℕ → LifecycleReactionImage) (len : ℕ) → Plain (lifecycles_checks rows reactions lifecycles t start len)
-  unfolding lifecycles_checks
-  lifecycles-plain lifecycles len = plain-run (lifecycle-plain lifecycles) 0 len
-
 module _ (m : Image) where
-  -- the rows and the entries of a pass
-  ports-plain : (i : ℕ) → Plain (port_checks m i)
-  unfolding port_checks port_row binding_checks span_checks is_slot numbers
-  ports-plain i = search plain-laws depth 20
-
-  reactions-plain : (i : ℕ) → Plain (reaction_checks m i)
-  unfolding reaction_checks reaction_row reaction_owner_checks four_range_checks binding_checks span_checks is_slot numbers
-  reactions-plain i = search (plain-laws, effect) depth 30
-
-  modes-plain : (i : ℕ) → Plain (mode_checks m i)
-  unfolding mode_checks mode_row mode_owner_checks is_slot numbers
-  modes-plain i = search plain-laws depth 20
-
-  scopes-plain : (i : ℕ) → Plain (scope_checks m i)
-  unfolding scope_checks scope_row_checks scope_owner_checks member_range_checks reaction_range_checks span_checks is_slot numbers
-  scopes-plain i = search (plain-laws, parent, scope-mode) depth 30
-
-  action-triggers-plain : (i : ℕ) → Plain (action_trigger_checks m i)
-  unfolding action_trigger_checks
-  action-triggers-plain i = search levels-plain
-
-  port-triggers-plain : (i : ℕ) → Plain (port_trigger_checks m i)
-  unfolding port_trigger_checks
-  port-triggers-plain i = search levels-plain
-
-  enabled-modes-plain : (i : ℕ) → Plain (enabled_modes_checks m i)
-  unfolding enabled_modes_checks enabled_mode_checks is_slot numbers
-  enabled-modes-plain i = search plain-laws depth 20
-
-  scope-lists-plain : (i : ℕ) → Plain (scope_list_checks m i)
-  unfolding scope_list_checks
-  scope-lists-plain i = search (plain-append, levels-plain, lifecycles-plain)
-
-  shutdown-actions-plain : (i : ℕ) → Plain (shutdown_action_checks m i)
-  unfolding shutdown_action_checks index_checks index_order_checks is_slot numbers
-  shutdown-actions-plain i = search plain-laws depth 20
-
-  routes-plain : (i : ℕ) → Plain (route_checks m i)
-  unfolding route_checks route_row route_order_checks is_slot numbers
-  routes-plain i = search plain-laws depth 20
-
-  bindings-plain : (i : ℕ) → Plain (binding_id_checks m i)
-  unfolding binding_id_checks binding_id_row is_slot numbers
-  bindings-plain i = search plain-laws depth 20
-
   -- the passes after those over reactors and actions
   others-plain : Plain (checks_of m (drop 5 passes))
-  unfolding checks_of pass_checks passes head_passes row_passes scope_passes reaction_list_passes scope_list_passes entry_passes enclave_list_passes cycle_checks index_checks startup_checks level_entry_checks lifecycle_entry_checks is_slot numbers
-  others-plain =
-      search
-      (plain-laws, ports-plain, reactions-plain, modes-plain, scopes-plain, action-triggers-plain, port-triggers-plain, enabled-modes-plain, scope-lists-plain, lifecycle-plain, shutdown-actions-plain, routes-plain, bindings-plain)
-      depth 60 fits 4000
+  unfolding checks_of pass_checks the_passes the_rows the_lists the_parts is_slot numbers
+  others-plain = search (plain-laws, effect, parent, scope-mode) depth 60 fits 4000
 
   -- what is left of the slot checks: one test for each reactor and each action
   pub reactor-slots : (i : ℕ) → slots_hold (reactor_checks m i) ≡ ltb (m.reactors i).state_slot m.state_slots
-  unfolding reactor_checks reactor_row binding_checks slot_checks root_scope_checks span_checks slots_hold is_slot numbers
+  unfolding the_rows the_parts is_slot numbers slots_hold
   reactor-slots i =
       let row = m.reactors i in
       ap (ltb row.state_slot m.state_slots &&◌) (plain-holds (plain-append (initial-mode m.rows i row.modes.0 row.initial_mode) (bank i row.bank)))
       ∙ and-true _
 
   pub action-slots : (i : ℕ) → slots_hold (action_checks m i) ≡ ltb (m.actions i).slot m.action_slots
-  unfolding action_checks action_row slot_checks span_checks slots_hold is_slot numbers
+  unfolding the_rows the_parts is_slot numbers slots_hold
   action-slots i =
       let row = m.actions i in
       ap (ltb row.slot m.action_slots &&◌) (slots-append (action_binding_checks m.rows m.bindings i row.standard row.binding) _ ∙ rw (plain-holds (action-binding m.rows m.bindings i row.standard row.binding)))
@@ -189,7 +120,7 @@ module _ (m : Image) where
   pass-plain f fs h = pass-slots f fs ∙ rw (plain-holds (plain-run h 0 (f.items m.rows)))
 
   pub enclave-slots : slots_hold (enclave_checks m) ≡ (slots_hold (run (reactor_checks m) 0 (m.rows 2)) && slots_hold (run (action_checks m) 0 (m.rows 3)))
-  unfolding enclave_checks passes head_passes row_passes length_checks pass_checks is_slot numbers
+  unfolding enclave_checks the_passes pass_checks the_lists is_slot numbers
   enclave-slots =
       pass-plain (times 8 length_checks) (drop 1 passes) (λ i. more refl none)
       ∙ pass-plain (times 1 root_checks) (drop 2 passes) (λ i. more refl none)
