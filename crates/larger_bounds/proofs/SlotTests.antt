@@ -27,8 +27,8 @@ use Rattle.row_checks.specs.Reactors.{initial_mode_checks, bank_checks, reactor_
 use Rattle.row_checks.specs.Actions.{action_binding_checks, action_checks}
 use Rattle.row_checks.specs.Reactions.{effect_checks}
 use Rattle.scope_checks.specs.Scopes.{parent_checks, scope_mode_checks}
-use Rattle.larger_bounds.proofs.Opened.{the_passes, the_rows, the_lists, the_parts}
 use Rattle.enclave.specs.Passes.{Pass, passes, over, times, length_checks, root_checks, enclave_id_checks, pass_checks, checks_of, enclave_checks}
+use Rattle.larger_bounds.proofs.Opened.{the_passes, the_rows, the_lists, the_parts}
 
 -- no check of the list is a slot check
 data Plain : List Check → Type 0 where
