@@ -3,3 +3,4 @@ pub mod Tables
 pub mod TableStarts
 pub mod Packed
 pub mod TableRows
+pub mod Runs

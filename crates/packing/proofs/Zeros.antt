@@ -1,14 +1,14 @@
 -- Bytes that are zero, by their number and by parts. Assumes nothing.
-use Prim.Native.Nat.{ℕ, zero, suc, ◌+◌, ◌*◌, ◌-◌, ◌≤◌}
-use mathlib.Core.Bool.{true, false, ◌&&◌, and-true, and_assoc}
+use Prim.Native.Nat.{ℕ, zero, suc, ◌+◌, ◌*◌, ◌-◌, ◌%◌, ◌≤◌}
+use mathlib.Core.Bool.{true, false, ◌&&◌, ◌||◌, and-true, and_assoc}
 use mathlib.Core.Path.{◌≡◌, refl, ◌∙◌, sym}
 use mathlib.Core.List.{List}
 use native.Mathlib.Nat.{add-zero, add-suc}
 use native.Mathlib.Omega.{arith}
-use lib.Dec.{eqb}
+use lib.Dec.{ltb, eqb}
 use lib.ListN.{get_or}
-use borrow.Author.Tests.{ne_eqb, eq-eqb}
-use Rattle.identity.proofs.Tests.{and-false}
+use borrow.Author.Tests.{ne_eqb, eq-eqb, ltb-true, ltb-false}
+use Rattle.identity.proofs.Tests.{cases, and-false}
 use Rattle.schema.specs.Number.{number}
 use Rattle.packing.specs.Clean.{zeros}
 
@@ -51,5 +51,21 @@ zeros_stop p o a w m e l h =
     let i : m ≡ (a - o) + (w + (m - (a - o) - w)) = omega arith in
     let j : o + (a - o) ≡ a = omega arith in
     rw (i, zeros-add p o (a - o) _, j, zeros-add p a w _, x) (and-false (zeros p o (a - o)))
+
+-- one W more of the bytes from place u on, in a record of whole Ws
+pub zeros_word : (p : List ℕ) (o u j : ℕ) → u % 4 ≡ 0 → zeros p (o + u) ((j + 1) * 4 - u) ≡ (zeros p (o + u) (j * 4 - u) && (ltb (j * 4) u || eqb (number 4 p (o + j * 4)) 0))
+zeros_word p o u j w =
+    cases (ltb (j * 4) u)
+    (λ t.
+    let h = ltb-true (j * 4) u t in
+    let a : (j + 1) * 4 - u ≡ j * 4 - u = omega arith in
+    rw (t, a) (sym (and-true (zeros p (o + u) (j * 4 - u)))))
+    (λ f.
+    let h = ltb-false (j * 4) u f in
+    let a : (j + 1) * 4 - u ≡ (j * 4 - u) + 4 = omega arith in
+    let b : (o + u) + (j * 4 - u) ≡ o + j * 4 = omega arith in
+    rw (f, a, zeros-add p (o + u) (j * 4 - u) 4, b, zeros_number p (o + j * 4) 4) refl)
+
+pub ruleset word_laws = (zeros_none, zeros_word)
 
 pub ruleset zeros_laws = (zeros_none, zeros_one, zeros_number, zeros_on, zeros_stop)

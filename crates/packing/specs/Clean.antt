@@ -3,6 +3,7 @@ use Rattle.std.specs.Prelude.{ℕ, zero, suc, ◌+◌, ◌*◌, ◌-◌, Bool, t
 use Rattle.schema.specs.Layout as layout
 use Rattle.schema.specs.Layout.{Layout, offset}
 use Rattle.schema.specs.Rows.{byte_of, bit_of}
+use Rattle.schema.specs.Records.{is_of}
 use Rattle.packing.specs.Shape.{layout_of, used, governed_offset, governed_bytes}
 
 -- the k bytes of p from o are zero
@@ -41,3 +42,8 @@ clean_by l p n = head_clean l p n && (tail_clean l p n && (absent_clean 0 l p n 
 
 unfoldable pub clean : List ℕ → ℕ → Bool
 clean p n = clean_by (layout_of (byte_of p n 0)) p n && kind_clean (byte_of p n 0) p n
+
+-- the first of the records n, n + 1, .. that is not a clean one of table t, k looked at
+unfoldable pub run_from : List ℕ → ℕ → ℕ → ℕ → ℕ
+run_from p t n zero = n
+run_from p t n (suc k) = cond (is_of p t n && clean p n) (run_from p t (n + 1) k) n

@@ -1,28 +1,27 @@
 // A record without stray bytes, bits or kinds, whose absent fields are zero (refusal 4).
 ghost use Rattle.std.specs.Prelude.{◌≡◌, ◌&&◌, ◌+◌, ◌*◌, ◌-◌, ◌/◌, ◌%◌, ◌<◌, ◌≤◌, length, leb, eqb};
-ghost use Rattle.packing.specs.Clean.{zeros, kind_clean, clean};
+ghost use Rattle.schema.specs.Rows.{byte_of};
+ghost use Rattle.schema.specs.Records.{records_of};
+ghost use Rattle.packing.specs.Clean.{zeros, kind_clean, clean, run_from};
+ghost use Rattle.packing.specs.Shape.{shape_of};
 
 use crate::shape::{Governed, Shape, shape_of};
 use schema::lent::{Pack, bit};
 use schema::rows::{ActionImage, ReactionImage};
 
-// Whether the bytes of record n from byte j to its end, whole Ws, are zero.
-#[tactic(auto, using(crate::proofs::Zeros::zeros_laws))]
-fn rest_zero(pack: Pack, n: usize, j: usize) -> bool
+// Whether the bytes of record n from byte `used` on, whole Ws, are zero. No branch among them.
+#[tactic(auto, using(crate::proofs::Zeros::word_laws))]
+fn rest_zero(pack: Pack, n: usize, used: u8) -> bool
     requires inside { n < length pack.bytes.now / 64 }
-    requires in_record { j ≤ 64 }
-    requires words { j % 4 ≡ 0 }
-    ensures { result ≡ zeros pack.entry.bytes.now (n * 64 + j) (64 - j) }
+    requires in_record { used ≤ 64 }
+    requires words { used % 4 ≡ 0 }
+    ensures { result ≡ zeros pack.entry.bytes.now (n * 64 + used) (64 - used) }
 {
-    if j % 8 != 0 && pack.word(n, j) != 0 {
-        return false;
+    let mut all = true;
+    for j in 0..16u8 {
+        all = all & ((j * 4 < used) | (pack.word(n, usize::from(j) * 4) == 0));
     }
-    for k in (j + 4) / 8..8 {
-        if pack.long(n, k * 8) != 0 {
-            return false;
-        }
-    }
-    true
+    all
 }
 
 // Whether the bytes that a presence bit governs, none, a W or two, are zero.
@@ -64,18 +63,42 @@ fn kind_clean(pack: Pack, n: usize, table: u8) -> bool
     }
 }
 
-// Whether record n is clean.
+// Whether record n, of `table`, whose shape it is, is clean.
 #[tactic(auto, using(crate::proofs::Tables::table_laws), unfolding(crate::specs::Clean::clean))]
-pub fn clean(pack: Pack, n: usize) -> bool
-    requires { n < length pack.bytes.now / 64 }
+#[inline(always)]
+fn clean_by(pack: Pack, n: usize, table: u8, shape: Shape) -> bool
+    requires inside { n < length pack.bytes.now / 64 }
+    requires own { table ≡ byte_of pack.bytes.now n 0 }
+    requires shaped { shape ≡ shape_of table }
     ensures { result ≡ clean pack.entry.bytes.now n }
 {
-    let table = pack.byte(n, 0);
-    let shape = shape_of(table);
     let bits = pack.byte(n, 1);
     head_clean(shape, bits, pack.byte(n, 2), pack.byte(n, 3))
-        && rest_zero(pack, n, usize::from(shape.used))
+        && rest_zero(pack, n, shape.used)
         && (bit(bits, 0) || field_zero(pack, n, shape.bit_0))
         && (bit(bits, 1) || field_zero(pack, n, shape.bit_1))
         && kind_clean(pack, n, table)
+}
+
+// Whether record n, of `table`, is clean.
+pub fn clean(pack: Pack, n: usize, table: u8) -> bool
+    requires inside { n < length pack.bytes.now / 64 }
+    requires own { table ≡ byte_of pack.bytes.now n 0 }
+    ensures { result ≡ clean pack.entry.bytes.now n }
+{
+    clean_by(pack, n, table, shape_of(table))
+}
+
+// The first record from n on that is not a clean one of `table`.
+#[tactic(auto, using(crate::proofs::Runs::run_from_laws))]
+pub fn run_of(pack: Pack, table: u8, n: usize) -> usize
+    requires { n ≤ records_of pack.bytes.now }
+    ensures { let p = pack.entry.bytes.now in result ≡ run_from p table n (records_of p - n) }
+{
+    let shape = shape_of(table);
+    let mut k = n;
+    while k < pack.records() && pack.is_of(table, k) && clean_by(pack, k, table, shape) {
+        k += 1;
+    }
+    k
 }

@@ -5,7 +5,7 @@ ghost use Rattle.schema.specs.Rows.{byte_of};
 ghost use Rattle.packing.specs.Shape.{layout_of};
 ghost use Rattle.packing.specs.Packing.{row_after, first_table, table_after, in_place, identity_at, identity_checks, record_checks, packing_checks, pack_outcome, IsLent};
 
-use crate::clean::clean;
+use crate::clean::{clean, run_of};
 use crate::shape::shape_of;
 use crate::walker::{Record, Walker};
 use crate::{PackAnswer, PackKind};
@@ -117,26 +117,31 @@ fn check_record(
     if !in_place(kind, pack, n, table) {
         return Outcome::Refused(Refusal::TableOutOfPlace { record: n as u32 });
     }
-    if !clean(pack, n) {
+    if !clean(pack, n, table) {
         return Outcome::Refused(Refusal::StrayByte { record: n as u32 });
     }
     check_identities(pack, batch, house, n, shape_of(table).identities)
 }
 
-// The checks of all records, as the walker yields them.
+// The checks of all records, as the walker yields them. Where a table has no identities, the clean records of it that follow pass.
 #[tactic(auto, using(answers::proofs::Loops::run_laws))]
 fn check_records(kind: PackKind, pack: Pack, batch: &[u8], house: &[u8]) -> Outcome
     ensures { let p = pack.entry.bytes.now in result ≡ first (run (record_checks kind p batch.now house.now) 0 (length p / 64)) }
 {
     let mut walker = Walker { pack, place: 0 };
     loop {
-        let Record::At { table, number } = walker.step() else {
+        let n = walker.place;
+        let record = walker.step();
+        let Record::At { table, .. } = record else {
             return Outcome::Passed;
         };
-        let outcome = check_record(kind, pack, batch, house, number, table);
+        let outcome = check_record(kind, pack, batch, house, n, table);
         let Outcome::Passed = outcome else {
             return outcome;
         };
+        if shape_of(table).identities == 0 {
+            walker.place = run_of(pack, table, n + 1);
+        }
     }
 }
 

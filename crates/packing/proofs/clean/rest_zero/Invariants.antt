@@ -1,7 +1,7 @@
--- The bytes before the next D are zero.
-use Rattle.std.proofs.Common.{◌≡◌, true, ◌+◌, ◌*◌, ◌-◌, ◌≤◌}
+-- The bytes looked at are zero.
+use Rattle.std.proofs.Common.{◌≡◌, ◌+◌, ◌*◌, ◌-◌}
 use Rattle.packing.specs.Clean.{zeros}
 use Rattle.packing.proofs.clean.rest_zero.Given as goal
 
-abbrev pub invariant-loop-k : goal.invariant-loop-k
-invariant-loop-k l = (l.j ≤ l.k * 8) × (zeros l.pack.bytes.now (l.n * 64 + l.j) (l.k * 8 - l.j) ≡ true)
+abbrev pub invariant-loop-j : goal.invariant-loop-j
+invariant-loop-j l = l.all ≡ zeros l.pack.bytes.now (l.n * 64 + l.used) (l.j * 4 - l.used)
