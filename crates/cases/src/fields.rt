@@ -1,5 +1,3 @@
-
-
 // An optional W: its presence bit, and its number, 0 where it is absent.
 #[derive(Clone, Copy)]
 pub struct Optional {
