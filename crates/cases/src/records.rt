@@ -58,6 +58,7 @@ fn start(table: u8, bits: u8, kind: u8) -> Record
 }
 
 // The record of a table with these bits, kind and fields.
+#[tactic(auto, using(crate::proofs::FieldBytes::field_laws))]
 fn record(table: u8, bits: u8, kind: u8, fields: &[Field]) -> Record
     requires { 4 + sum_by width fields.now ≤ 64 }
     ensures { result ≡ record_of table bits kind fields.now }
@@ -105,7 +106,12 @@ pub fn enclave(row: EnclaveImage) -> Record
         D(bounds.state_bytes),
         D(bounds.scratch_bytes),
     ];
-    record(EnclaveImage::TABLE, fields::bits(id.house, false), 0, &fields)
+    record(
+        EnclaveImage::TABLE,
+        fields::bits(id.house, false),
+        0,
+        &fields,
+    )
 }
 
 pub fn reactor(row: ReactorImage) -> Record
@@ -233,7 +239,12 @@ pub fn route(row: RouteImage) -> Record
         W(row.local_port.0),
         D(row.delay_nanos),
     ];
-    record(RouteImage::TABLE, fields::bits(id.house, false), kind, &fields)
+    record(
+        RouteImage::TABLE,
+        fields::bits(id.house, false),
+        kind,
+        &fields,
+    )
 }
 
 pub fn binding(row: RequiredBindingImage) -> Record
