@@ -1,4 +1,5 @@
+// Document 01's lines: specs/Cases.antt has the proved ones, and here are the records of rows, of which packs are made.
 #![tactic(auto)]
-// Document 01's lines: specs/Cases.antt has the proved ones; here are rows' records, of which the crate `cases_run` builds its packs.
-pub mod fields;
+
+mod fields;
 pub mod records;
