@@ -12,7 +12,7 @@ use Rattle.packing.specs.Packing.{packing_checks}
 use Rattle.scope_checks.specs.declared.links.Parents.TheVariants as parents
 use Rattle.scope_checks.specs.Scopes.{scope_checks}
 use Rattle.scope_checks.specs.Links.{cycle_checks, links, parents_answer}
-use Rattle.enclave.specs.Passes.{Pass, head_passes, row_passes, scope_passes, reaction_list_passes, scope_list_passes, entry_passes, enclave_list_passes, passes, pass_checks, checks_of, enclave_checks}
+use Rattle.enclave.specs.Passes.{Pass, scope_passes, passes, pass_checks, checks_of, enclave_checks, checks_before_parents, checks_after_parents}
 use Rattle.enclave.specs.declared.EnclaveAnswer.TheVariants as answer
 use Rattle.enclave.specs.declared.EnclaveAnswer.{EnclaveAnswer}
 use Rattle.answers.specs.Numbers.{numbers}
@@ -26,13 +26,13 @@ checks_append m (f ∷ fs) gs = rw (checks_append m fs gs) (sym (append_assoc (p
 module _ (m : Image) where
   -- before the walk of the parents, the walk, and after it
   abbrev pub tables : List Check
-  tables = checks_of m head_passes ++ (checks_of m row_passes ++ run (scope_checks m) 0 (m.rows 7))
+  tables = checks_before_parents m
 
   abbrev pub cycles : List Check
   cycles = run (cycle_checks m) 0 (m.rows 7)
 
   abbrev pub lists : List Check
-  lists = checks_of m reaction_list_passes ++ (checks_of m scope_list_passes ++ (checks_of m entry_passes ++ checks_of m enclave_list_passes))
+  lists = checks_after_parents m
 
   scopes-and-cycles : checks_of m scope_passes ≡ run (scope_checks m) 0 (m.rows 7) ++ cycles
   unfolding scope_passes checks_of pass_checks

@@ -121,3 +121,14 @@ checks_of m (f ∷ fs) = pass_checks m f ++ checks_of m fs
 
 unfoldable pub enclave_checks : Image → List Check
 enclave_checks m = checks_of m passes
+
+-- the checks before the walk of the parents, and those after it
+abbrev pub checks_before_parents : Image → List Check
+checks_before_parents m = checks_of m head_passes ++ (checks_of m row_passes ++ run (scope_checks m) 0 (m.rows 7))
+
+abbrev pub checks_after_parents : Image → List Check
+checks_after_parents m =
+    checks_of m reaction_list_passes
+    ++ (checks_of m scope_list_passes
+    ++ (checks_of m entry_passes
+    ++ checks_of m enclave_list_passes))

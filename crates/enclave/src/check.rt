@@ -1,8 +1,7 @@
 // The check of an enclave: packing, then the passes, with the links of its scopes.
-ghost use Rattle.std.specs.Prelude.{◌≡◌, ◌++◌};
-ghost use Rattle.answers.specs.Checks.{first, run};
-ghost use Rattle.scope_checks.specs.Scopes.{scope_checks};
-ghost use Rattle.enclave.specs.Passes.{head_passes, row_passes, reaction_list_passes, scope_list_passes, entry_passes, enclave_list_passes, checks_of};
+ghost use Rattle.std.specs.Prelude.{◌≡◌};
+ghost use Rattle.answers.specs.Checks.{first};
+ghost use Rattle.enclave.specs.Passes.{checks_before_parents, checks_after_parents};
 ghost use Rattle.checks.specs.Image.{image_of};
 ghost use Rattle.enclave.specs.Answer.{answer_numbers, outcome_answer, image_result, enclave_answer};
 
@@ -32,7 +31,7 @@ pub fn refused(outcome: Outcome) -> EnclaveAnswer
 // The passes up to the rows of scopes.
 #[tactic(auto, using(answers::proofs::Laws::list_laws))]
 fn check_tables(e: Enclave) -> Outcome
-    ensures { let m = image_of e.entry in result ≡ first (checks_of m head_passes ++ (checks_of m row_passes ++ run (scope_checks m) 0 (m.rows 7))) }
+    ensures { result ≡ first (checks_before_parents (image_of e.entry)) }
 {
     let head = check_head(e);
     let Outcome::Passed = head else {
@@ -48,7 +47,7 @@ fn check_tables(e: Enclave) -> Outcome
 // The passes after the walk of the parents.
 #[tactic(auto, using(answers::proofs::Laws::list_laws))]
 fn check_lists(e: Enclave) -> Outcome
-    ensures { let m = image_of e.entry in result ≡ first (checks_of m reaction_list_passes ++ (checks_of m scope_list_passes ++ (checks_of m entry_passes ++ checks_of m enclave_list_passes))) }
+    ensures { result ≡ first (checks_after_parents (image_of e.entry)) }
 {
     let reactions = check_reaction_lists(e);
     let Outcome::Passed = reactions else {

@@ -3,15 +3,16 @@ use Rattle.std.specs.Prelude.{ℕ, zero, suc, ◌+◌, ◌%◌, ◌^◌, cond, L
 use Rattle.identity.specs.Text.{identity_text}
 use Rattle.identity.specs.declared.IdentityPlace.{IdentityPlace}
 use Rattle.answers.specs.Fields as field
-use Rattle.answers.specs.Checks.{Check}
+use Rattle.answers.specs.Checks.{Check, first, run}
 use Rattle.schema.specs.Rows.{enclave_at}
 use Rattle.checks.specs.Image.{Image}
 use Rattle.checks.specs.Lists.{after_first}
 use Rattle.checks.specs.Identities.{id_order_checks}
 use Rattle.scope_checks.specs.Links.{links}
 use Rattle.enclave.specs.Passes.{enclave_checks}
-use Rattle.enclave.specs.Answer.{pack_image}
-use Rattle.schema.specs.Records.{is_of}
+use Rattle.enclave.specs.declared.EnclaveAnswer.{EnclaveAnswer}
+use Rattle.enclave.specs.Answer.{answer_of, pack_image}
+use Rattle.schema.specs.Records.{records_of, is_of}
 use Rattle.federate.specs.Records.{enclaves_before, enclave_before, enclave_pack}
 
 -- the image of the enclave of record n: that of its own pack
@@ -39,3 +40,11 @@ record_checks p batch house start n =
 unfoldable pub links_before : List ℕ → List ℕ → List ℕ → ℕ → ℕ
 links_before p batch house zero = 0
 links_before p batch house (suc n) = links_before p batch house n + cond (is_of p 1 n) (links (image_at p batch house n)) 0
+
+-- the answer of the enclave of record n, and of all enclaves with their summed links
+abbrev pub record_answer : List ℕ → List ℕ → List ℕ → ℕ → ℕ → EnclaveAnswer
+record_answer p batch house start n = answer_of (first (record_checks p batch house start n)) (links (image_at p batch house n))
+
+abbrev pub enclaves_answer : List ℕ → List ℕ → List ℕ → ℕ → EnclaveAnswer
+enclaves_answer p batch house start =
+    answer_of (first (run (record_checks p batch house start) 0 (records_of p))) (links_before p batch house (records_of p))

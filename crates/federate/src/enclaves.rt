@@ -1,11 +1,10 @@
 // The enclaves of a federate in turn: each one's own checks, then its identity against that of the one before.
 ghost use Rattle.std.specs.Prelude.{◌≡◌, ◌<◌, true};
-ghost use Rattle.answers.specs.Checks.{first, run};
+ghost use Rattle.answers.specs.Checks.{first};
 ghost use Rattle.schema.specs.Records.{records_of, is_of};
-ghost use Rattle.scope_checks.specs.Links.{links};
-ghost use Rattle.enclave.specs.Answer.{answer_of, image_result};
+ghost use Rattle.enclave.specs.Answer.{image_result};
 ghost use Rattle.federate.specs.Records.{enclaves_before, enclave_before, enclave_end};
-ghost use Rattle.federate.specs.Enclaves.{index_from, image_at, order_checks, record_checks, links_before};
+ghost use Rattle.federate.specs.Enclaves.{index_from, image_at, order_checks, record_answer, enclaves_answer};
 
 use crate::records::{enclave_pack, next_enclave};
 use answers::{Outcome, kind};
@@ -83,7 +82,7 @@ fn check_record(
     requires own { end ≡ enclave_end pack.bytes.now n }
     requires counted { place ≡ enclaves_before pack.bytes.now n }
     requires last { before ≡ enclave_before pack.bytes.now n }
-    ensures { let p = pack.entry.bytes.now in result ≡ answer_of (first (record_checks p batch.now house.now start n)) (links (image_at p batch.now house.now n)) }
+    ensures { result ≡ record_answer pack.entry.bytes.now batch.now house.now start n }
 {
     let links = match check_enclave_at(pack, batch, house, n, end) {
         EnclaveAnswer::Accepted { links } => links,
@@ -103,7 +102,7 @@ pub fn validate_federate_enclaves(
     house: &[u8],
     start: u64,
 ) -> EnclaveAnswer
-    ensures { let p = pack.entry.bytes.now in result ≡ answer_of (first (run (record_checks p batch.now house.now start) 0 (records_of p))) (links_before p batch.now house.now (records_of p)) }
+    ensures { result ≡ enclaves_answer pack.entry.bytes.now batch.now house.now start }
 {
     let mut links = 0u64;
     let mut place = 0u32;

@@ -114,7 +114,8 @@ impl<'a> Pack<'a> {
     pub fn place(self, n: usize, j: usize, house: bool) -> IdentityPlace
         requires inside { n < length self.bytes.now / 64 }
         requires in_record { j ≤ 56 }
-        ensures { result ≡ record { house = house; start = number 4 self.entry.bytes.now (n * 64 + j); len = number 4 self.entry.bytes.now (n * 64 + (j + 4)) } }
+        ensures { result
+            ≡ record { house = house; start = number 4 self.entry.bytes.now (n * 64 + j); len = number 4 self.entry.bytes.now (n * 64 + (j + 4)) } }
     {
         IdentityPlace {
             house,
