@@ -11,7 +11,7 @@ extern "C" {
 
 /* Bytes of stack that are enough for one call. No proof speaks of the stack: bindings/rust/tests/packs.rs runs large packs in it.
  * A call that has less ends the process at the guard page below the stack, before it writes to other memory. */
-#define IMAGE_CHECK_STACK 1572864
+#define IMAGE_CHECK_STACK 524288
 
 /* Checks the image of one station (an enclave) or of a whole line (a federate): a pack, its batch text and its house text.
  *

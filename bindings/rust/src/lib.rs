@@ -9,7 +9,7 @@ compile_error!("libimage_check.a is for x86-64 Linux");
 use std::fmt;
 
 /// Bytes of stack that are enough for one call; a thread of Rust's has more unless it is asked for fewer.
-pub const STACK: usize = 3 << 19;
+pub const STACK: usize = 1 << 19;
 
 /// What a check answers. It is shown in the words of the program `replay`.
 #[derive(Clone, Copy, Debug, PartialEq, Eq)]
