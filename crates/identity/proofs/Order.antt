@@ -1,59 +1,93 @@
 -- The order of two texts, byte by byte. Assumes nothing.
-use Prim.Native.Nat.{ℕ, ◌+◌, ◌<◌, ◌≤◌}
+use Prim.Native.Nat.{ℕ, zero, suc, ◌-◌, ◌<◌, ◌≤◌}
 use mathlib.Core.Bool.{Bool, true}
 use mathlib.Core.Path.{◌≡◌, refl, ◌∙◌, sym}
 use mathlib.Core.List.{List, [], ◌∷◌}
-use native.Mathlib.Numerals.{add-one}
 use native.Mathlib.Omega.{arith}
 use lib.Dec.{ltb}
-use lib.ListN.{length, get_or, drop_of_length-le}
-use lib.Seq.{drop-cons}
+use lib.ListN.{length, get_or, take, drop}
 use borrow.Author.Tests.{ltb-false, lt-ltb, le-ltb, eqb-true}
 use Rattle.identity.specs.declared.ByteOrder.TheVariants.{Less, Equal, Greater}
 use Rattle.identity.specs.Order.{compared}
-use Rattle.identity.specs.Scan.{every, same_at, Tied}
+use Rattle.identity.specs.Scan.{every, same_at}
 use Rattle.identity.proofs.Tests.{cases}
-use Rattle.identity.proofs.Steps.{along}
+use Rattle.identity.proofs.Steps.{every-at}
+use Rattle.std.proofs.lemmas.List.{take_rest}
 
-pub tied-start : (a b : List ℕ) → Tied a b 0
-tied-start a b = record { inside_left = omega arith; inside_right = omega arith; same = refl }
+-- The order of the texts l and r is that of a and b, what is left of them.
+pub record Rests (l r a b : List ℕ) : Type 0 where
+  pub same : compared l r ≡ compared a b
 
-pub a-longer : {a b : List ℕ} {i : ℕ} → Tied a b i → i < length a → length b ≤ i → Greater ≡ compared a b
+pub rests_start : (l r : List ℕ) → Rests l r l r
+rests_start l r = record { same = refl }
+
+left-over : (a b : List ℕ) → 0 < length a → length b ≡ 0 → compared a b ≡ Greater
 unfolding compared
-a-longer {a} {b} {i} t h l = sym (t.same ∙ rw (drop-cons a i 0, drop_of_length-le b l))
+left-over [] b h e = absurd (omega arith)
+left-over (x ∷ a) [] h e = refl
+left-over (x ∷ a) (y ∷ b) h e = absurd (omega arith)
 
-pub b-longer : {a b : List ℕ} {i : ℕ} → Tied a b i → length a ≤ i → i < length b → Less ≡ compared a b
+right-over : (a b : List ℕ) → length a ≡ 0 → 0 < length b → compared a b ≡ Less
 unfolding compared
-b-longer {a} {b} {i} t l h = sym (t.same ∙ rw (drop-cons b i 0, drop_of_length-le a l))
+right-over [] [] e h = absurd (omega arith)
+right-over [] (y ∷ b) e h = refl
+right-over (x ∷ a) b e h = absurd (omega arith)
 
-pub both_end : {a b : List ℕ} {i : ℕ} → Tied a b i → length a ≤ i → length b ≤ i → Equal ≡ compared a b
+none-over : (a b : List ℕ) → length a ≡ 0 → length b ≡ 0 → compared a b ≡ Equal
 unfolding compared
-both_end {a} {b} {i} t l h = sym (t.same ∙ rw (drop_of_length-le a l, drop_of_length-le b h))
+none-over [] [] e h = refl
+none-over [] (y ∷ b) e h = absurd (omega arith)
+none-over (x ∷ a) b e h = absurd (omega arith)
 
-pub a-below : {a b : List ℕ} {i : ℕ} → Tied a b i → i < length a → i < length b → get_or a i 0 < get_or b i 0 → Less ≡ compared a b
+head-below : (a b : List ℕ) → 0 < length a → 0 < length b → get_or a 0 0 < get_or b 0 0 → compared a b ≡ Less
 unfolding compared
-a-below {a} {b} {i} t l h x = sym (t.same ∙ rw (drop-cons a i 0, drop-cons b i 0, lt-ltb _ _ x))
+head-below [] b h g l = absurd (omega arith)
+head-below (x ∷ a) [] h g l = absurd (omega arith)
+head-below (x ∷ a) (y ∷ b) h g l = rw (lt-ltb x y l)
 
-pub b-below : {a b : List ℕ} {i : ℕ} → Tied a b i → i < length a → i < length b → get_or b i 0 ≤ get_or a i 0 → get_or b i 0 < get_or a i 0 → Greater ≡ compared a b
+head-above : (a b : List ℕ) → 0 < length a → 0 < length b → get_or b 0 0 < get_or a 0 0 → compared a b ≡ Greater
 unfolding compared
-b-below {a} {b} {i} t l h y x = sym (t.same ∙ rw (drop-cons a i 0, drop-cons b i 0, le-ltb _ _ y, lt-ltb _ _ x))
+head-above [] b h g l = absurd (omega arith)
+head-above (x ∷ a) [] h g l = absurd (omega arith)
+head-above (x ∷ a) (y ∷ b) h g l = rw (le-ltb x y (omega arith), lt-ltb y x l)
 
-pub tied-step : {a b : List ℕ} {i : ℕ} → Tied a b i → i < length a → i < length b → get_or b i 0 ≤ get_or a i 0 → get_or a i 0 ≤ get_or b i 0 → Tied a b (i + 1)
+heads-same : (a b : List ℕ) → 0 < length a → 0 < length b → get_or a 0 0 ≡ get_or b 0 0 → compared a b ≡ compared (drop 1 a) (drop 1 b)
 unfolding compared
-tied-step {a} {b} {i} t l h y x =
-    record {
-      inside_left = omega arith;
-      inside_right = omega arith;
-      same = t.same ∙ rw (add-one, drop-cons a i 0, drop-cons b i 0, le-ltb _ _ y, le-ltb _ _ x);
-    }
+heads-same [] b h g e = absurd (omega arith)
+heads-same (x ∷ a) [] h g e = absurd (omega arith)
+heads-same (x ∷ a) (y ∷ b) h g e = rw (le-ltb x y (omega arith), le-ltb y x (omega arith))
 
-pub tied-block : {a b : List ℕ} {i : ℕ} (x : Bool) → Tied a b i → x ≡ every (same_at a b) i 16 → x ≡ true → i + 16 ≤ length a → i + 16 ≤ length b → Tied a b (i + 16)
-tied-block {a} {b} {i} x t e f l h =
-    along (same_at a b) (Tied a b) i 16 (λ j _ m q p.
-    let n = eqb-true (get_or a j 0) (get_or b j 0) q in
-    tied-step p (omega arith) (omega arith) (omega arith) (omega arith)) (sym e ∙ f) t
+run-same : (k : ℕ) (a b : List ℕ) → k ≤ length a → k ≤ length b → ((i : ℕ) → i < k → get_or a i 0 ≡ get_or b i 0) → compared a b ≡ compared (drop k a) (drop k b)
+unfolding compared
+run-same zero a b h g f = refl
+run-same (suc k) [] b h g f = absurd (omega arith)
+run-same (suc k) (x ∷ a) [] h g f = absurd (omega arith)
+run-same (suc k) (x ∷ a) (y ∷ b) h g f = heads-same (x ∷ a) (y ∷ b) (omega arith) (omega arith) (f 0 (omega arith)) ∙ run-same k a b (omega arith) (omega arith) (λ i l. f (suc i) (omega arith))
 
-pub ruleset order_laws = (tied-start, tied-block, a-longer, b-longer, both_end, a-below, b-below, tied-step)
+module _ {l r a b : List ℕ} (t : Rests l r a b) where
+  pub rests_left : 0 < length a → length b ≡ 0 → Greater ≡ compared l r
+  rests_left h e = sym (t.same ∙ left-over a b h e)
+
+  pub rests_right : length a ≤ 0 → 0 < length b → Less ≡ compared l r
+  rests_right e h = sym (t.same ∙ right-over a b (omega arith) h)
+
+  pub rests_none : length a ≤ 0 → length b ≤ 0 → Equal ≡ compared l r
+  rests_none e h = sym (t.same ∙ none-over a b (omega arith) (omega arith))
+
+  pub rests_below : 0 < length a → (length b ≡ 0 → ⊥) → get_or a 0 0 < get_or b 0 0 → Less ≡ compared l r
+  rests_below h g e = sym (t.same ∙ head-below a b h (omega arith) e)
+
+  pub rests_above : 0 < length a → (length b ≡ 0 → ⊥) → get_or b 0 0 < get_or a 0 0 → Greater ≡ compared l r
+  rests_above h g e = sym (t.same ∙ head-above a b h (omega arith) e)
+
+  pub rests_step : 0 < length a → (length b ≡ 0 → ⊥) → get_or b 0 0 ≤ get_or a 0 0 → get_or a 0 0 ≤ get_or b 0 0 → Rests l r (take (length a - 1) (drop 1 a)) (take (length b - 1) (drop 1 b))
+  rests_step h g e f = record { same = t.same ∙ heads-same a b h (omega arith) (omega arith) ∙ rw (take_rest a 1, take_rest b 1) }
+
+  pub rests_block : (x : Bool) → x ≡ every (same_at a b) 0 16 → x ≡ true → 16 ≤ length a → 16 ≤ length b → Rests l r (take (length a - 16) (drop 16 a)) (take (length b - 16) (drop 16 b))
+  rests_block x e f h g =
+      record { same = t.same ∙ run-same 16 a b h g (λ i m. eqb-true _ _ (every-at (same_at a b) 0 16 i (sym e ∙ f) (omega arith) (omega arith))) ∙ rw (take_rest a 16, take_rest b 16) }
+
+pub ruleset order_laws = (rests_start, rests_block, rests_left, rests_right, rests_none, rests_below, rests_above, rests_step)
 
 -- Equal stands for equal texts, and for no others
 pub compared_same : (a : List ℕ) → compared a a ≡ Equal

@@ -1,30 +1,36 @@
--- Bytes are UTF-8 exactly when they are the encodings of allowed scalars: the proofs of specs/Rfc3629.antt. Assumes nothing.
+-- Bytes are UTF-8 exactly when they are the encodings of scalars of RFC 3629: the proofs of specs/Rfc3629.antt. Assumes nothing.
 use Prim.Native.Nat.{ℕ, zero, suc, ◌+◌, ◌*◌, ◌/◌, ◌%◌, ◌<◌, ◌≤◌}
 use mathlib.Core.Bool.{true, ◌&&◌, true≢false}
 use mathlib.Core.Path.{◌≡◌, refl, ◌∙◌, ap, sym, subst}
 use mathlib.Core.List.{List, [], ◌∷◌, ◌++◌}
 use native.Mathlib.Nat.{zero-add}
 use native.Mathlib.Omega.{arith}
-use lib.Dec.{ltb}
+use lib.Dec.{ltb, leb}
 use lib.ListN.{length, get_or, drop, length-drop}
 use borrow.Author.Tests.{ltb-true, ltb-false, leb-true, lt-ltb, le-ltb, le-leb}
 use Rattle.identity.specs.declared.decode.Decoded.{Decoded}
 use Rattle.identity.specs.declared.decode.Decoded.TheVariants.{Scalar, Malformed}
-use Rattle.identity.specs.Utf8.{allowed, all_allowed, encode, encode_all, follows, value_of_two, value_of_three, value_of_four, scalar_at}
+use Rattle.identity.specs.Utf8.{allowed, encode, encode_all, follows, value_of_two, value_of_three, value_of_four, scalar_at}
 use Rattle.identity.specs.Utf8.{Scalars, some, none, before, decode, decode_after, is_some}
-use Rattle.identity.specs.Rfc3629.{Encodes, Utf8IsEncoding, DecodeInvertsEncode}
-use Rattle.identity.proofs.Tests.{cases, both}
+use Rattle.identity.specs.Rfc3629.{rfc_scalar, rfc_scalars, Encodes, AllowedIsRfc, AfterED, AroundSurrogates, Utf8IsEncoding, DecodeInvertsEncode}
+use Rattle.identity.proofs.Tests.{cases, below_or_not, both, within-true}
 use Rattle.identity.proofs.Scalar.{one_byte, by_two, by_three, by-four, checked-scalar, Follows, is-follow, no_byte}
 use Rattle.identity.proofs.Scalar.{Form, one, two, three, four, form-at, width-at, decode-at, decode-malformed}
 
 -- all that is asked of `allowed`
 allowed-max : (v : ℕ) → allowed v ≡ true → v ≤ 0x10FFFF
 unfolding allowed
-allowed-max v e = leb-true v 0x10FFFF e
+allowed-max v e =
+    cases (leb v 0xD7FF) (λ t. let l = leb-true v 0xD7FF t in omega arith)
+    (λ f. (within-true 0xE000 0x10FFFF v (rw f at e)).1)
 
 allowed-low : (v : ℕ) → v < 0x80 → allowed v ≡ true
 unfolding allowed
-allowed-low v h = le-leb v 0x10FFFF (omega arith)
+allowed-low v h = rw (le-leb v 0xD7FF (omega arith))
+
+pub allowed_is_rfc : AllowedIsRfc
+unfolding allowed
+allowed_is_rfc v = rw (le-leb 0x0000 v (omega arith))
 
 -- the bytes of each form give its scalar
 is_one : (a : ℕ) (t : List ℕ) → a < 0x80 → scalar_at (a ∷ t) 0 ≡ Scalar a 1
@@ -92,12 +98,12 @@ decode-one v t m =
     let k = allowed-max v m in
     rw f3 (decode-at ((0xF0 + v / 262144) ∷ (0x80 + v / 4096 % 64) ∷ (0x80 + v / 64 % 64) ∷ (0x80 + v % 64) ∷ t) 0 (omega arith) (is-four _ _ _ _ t (omega arith) (omega arith) (following-byte (v / 4096)) (following-byte (v / 64)) (following-byte v) (rw e l) (rw e m) ∙ ap (λ (n : ℕ). Scalar n 4) e)))))))
 
-decode-encode : (vs : List ℕ) → all_allowed vs ≡ true → decode (encode_all vs) ≡ some vs
+decode-encode : (vs : List ℕ) → rfc_scalars vs ≡ true → decode (encode_all vs) ≡ some vs
 unfolding encode_all decode_after
 decode-encode [] e = refl
 decode-encode (v ∷ vs) e =
-    let h = both (allowed v) (all_allowed vs) e in
-    decode-one v (encode_all vs) h.0 ∙ ap (before v) (decode-encode vs h.1)
+    let h = both (rfc_scalar v) (rfc_scalars vs) e in
+    decode-one v (encode_all vs) (allowed_is_rfc v ∙ h.0) ∙ ap (before v) (decode-encode vs h.1)
 
 -- a scalar found at the front: the text starts with its bytes, and it is allowed
 record Front (s : List ℕ) (v w : ℕ) : Type 0 where
@@ -178,6 +184,18 @@ front (a ∷ b ∷ []) (four l u f g k m n) h = absurd (no_byte g)
 front (a ∷ b ∷ c ∷ []) (four l u f g k m n) h = absurd (no_byte k)
 front (a ∷ b ∷ c ∷ d ∷ t) (four l u f g k m n) h = front-four a b c d t l u f g k m n
 
+-- after ED a byte over 9F would give a surrogate
+surrogate : (a b c : ℕ) → a ≡ 0xED → Follows b → Follows c → allowed (value_of_three a b c) ≡ true → b ≤ 0x9F
+unfolding allowed
+surrogate a b c e f g n =
+    let v = value_of_three a b c in
+    let fh = f.high in
+    let fl = f.low in
+    below_or_not b 0xA0 (λ h. omega arith)
+    (λ h. cases (leb v 0xD7FF)
+    (λ t. let l = leb-true v 0xD7FF t in absurd (omega arith))
+    (λ o. let l = (within-true 0xE000 0x10FFFF v (rw o at n)).0 in absurd (omega arith)))
+
 -- the scalars after one that stands in front
 data Rest (v : ℕ) (x : Scalars) (vs : List ℕ) : Type 0 where
   rest : (us : List ℕ) → x ≡ some us → vs ≡ v ∷ us → Rest v x vs
@@ -194,7 +212,7 @@ unfolding encode_all
 joins a t v w f l (rest us e q) ih =
     let i = ih (drop w (a ∷ t)) us (rw length-drop (omega arith)) e in
     subst (Encodes (a ∷ t)) (sym q)
-    (record { bytes = f.bytes ∙ ap (encode v ++◌) i.bytes; scalars = rw f.is_allowed i.scalars })
+    (record { bytes = f.bytes ∙ ap (encode v ++◌) i.bytes; scalars = rw (sym (allowed_is_rfc v) ∙ f.is_allowed) i.scalars })
 
 -- a text is the encodings of its scalars, if the shorter ones are
 step : (a : ℕ) (t vs : List ℕ) (x : Decoded) → scalar_at (a ∷ t) 0 ≡ x → decode (a ∷ t) ≡ some vs → Shorter (a ∷ t) → Encodes (a ∷ t) vs
@@ -234,3 +252,16 @@ found s none e t = absurd (true≢false (sym t))
 
 pub utf8-is-encoding : Utf8IsEncoding
 utf8-is-encoding s = (found s (decode s) refl, λ p. ap is_some (decodes s p.0 p.1))
+
+after-form : {a b c d v w : ℕ} → Form a b c d (Scalar v w) → a ≡ 0xED → b ≤ 0x9F
+after-form (one l) e = absurd (omega arith)
+after-form (two l u f n) e = absurd (omega arith)
+after-form {a} {b} {c} (three l u f g m n) e = surrogate a b c e f g n
+after-form (four l u f g k m n) e = absurd (omega arith)
+
+pub after-ed : AfterED
+after-ed s i v w h e = after-form (form-at s i e) h
+
+pub around-surrogates : AroundSurrogates
+unfolding scalar_at decode_after allowed
+around-surrogates = refl

@@ -11,8 +11,8 @@ use Rattle.identity.specs.declared.decode.Decoded.TheVariants.{Scalar}
 use Rattle.identity.specs.Utf8.{allowed, follows, value_of_two, value_of_three, value_of_four, scalar_at}
 use Rattle.identity.specs.Unicode.{control}
 use Rattle.identity.specs.Scan.{ascii, printable, Run, Passed, utf8_from, id_from}
-use Rattle.identity.specs.Window.{due, low_after, second, starts, fits_at, quiet_at}
-use Rattle.identity.proofs.Tests.{cases, below_or_not, failed, both, neither, or-true, within-true, within-above}
+use Rattle.identity.specs.Window.{due, low_after, high_after, second, starts, fits_at, quiet_at}
+use Rattle.identity.proofs.Tests.{cases, below_or_not, failed, both, neither, or-true, within-true, within_in, within-above}
 use Rattle.identity.proofs.Steps.{every-at, passed_none}
 use Rattle.identity.proofs.Unicode.{printable-no-control}
 use Rattle.identity.proofs.Scalar.{ascii-scalar, by_two, by_three, by-four, Follows, follow, is-follow, checked-scalar, width-at}
@@ -20,9 +20,13 @@ use Rattle.identity.proofs.Utf8 as utf8
 use Rattle.identity.proofs.Valid as valid
 
 -- all that is asked of `allowed`, and of controls
-allowed-in : (v : ℕ) → v ≤ 0x10FFFF → allowed v ≡ true
+allowed-below : (v : ℕ) → v < 0xD800 → allowed v ≡ true
 unfolding allowed
-allowed-in v h = le-leb v 0x10FFFF h
+allowed-below v h = rw (le-leb v 0xD7FF (omega arith))
+
+allowed-above : (v : ℕ) → 0xE000 ≤ v → v ≤ 0x10FFFF → allowed v ≡ true
+unfolding allowed
+allowed-above v l h = rw (within_in 0xE000 0x10FFFF v l h) (or-true (leb v 0xD7FF))
 
 no-control : (v : ℕ) → 0xA0 ≤ v → control v ≡ false
 unfolding control
@@ -72,10 +76,14 @@ record Second (any : Bool) (b p : ℕ) : Type 0 where
   pub c2 : any ≡ false → p ≡ 0xC2 → 0xA0 ≤ b
   pub e0 : p ≡ 0xE0 → 0xA0 ≤ b
   pub f0 : p ≡ 0xF0 → 0x90 ≤ b
+  pub ed : p ≡ 0xED → b < 0xA0
   pub f4 : p ≡ 0xF4 → b < 0x90
 
 not_low : (a low p b : ℕ) → low_after a low p b ≡ false → p ≡ a → low ≤ b
 not_low a low p b e f = ltb-false b low (rw (eq-eqb p a f) at e)
+
+not_high : (a high p b : ℕ) → high_after a high p b ≡ false → p ≡ a → b < high
+not_high a high p b e f = leb-false high b (rw (eq-eqb p a f) at e)
 
 -- a test that is left out where any may stand
 unless-any : (any x : Bool) → any || not x ≡ true → any ≡ false → x ≡ false
@@ -86,14 +94,16 @@ second_is : (any : Bool) (b p : ℕ) → second any b p ≡ true → Second any 
 second_is any b p e =
     let x = both (follows b) _ e in
     let y = both (any || not (low_after 0xC2 0xA0 p b)) _ x.1 in
-    let z = both (not (low_after 0xE0 0xA0 p b)) _ y.1 in
-    let v = both (not (low_after 0xF0 0x90 p b)) _ z.1 in
+    let z = both (not (low_after 0xE0 0xA0 p b) && not (low_after 0xF0 0x90 p b)) _ y.1 in
+    let low = both (not (low_after 0xE0 0xA0 p b)) _ z.0 in
+    let high = both (not (high_after 0xED 0xA0 p b)) _ z.1 in
     record {
       follows = follow b x.0;
       c2 = λ n. not_low 0xC2 0xA0 p b (unless-any any (low_after 0xC2 0xA0 p b) y.0 n);
-      e0 = not_low 0xE0 0xA0 p b (not-true _ z.0);
-      f0 = not_low 0xF0 0x90 p b (not-true _ v.0);
-      f4 = λ f. leb-false 0x90 b (rw (eq-eqb p 0xF4 f) at (not-true (eqb p 0xF4 && leb 0x90 b) v.1));
+      e0 = not_low 0xE0 0xA0 p b (not-true _ low.0);
+      f0 = not_low 0xF0 0x90 p b (not-true _ low.1);
+      ed = not_high 0xED 0xA0 p b (not-true _ high.0);
+      f4 = not_high 0xF4 0x90 p b (not-true _ high.1);
     }
 
 -- the scalar at i, before e
@@ -170,7 +180,7 @@ module _ (any : Bool) (s : List ℕ) (i e : ℕ) (l : 3 ≤ i) (h : i < e) (fit 
       record {
         value = value_of_two a b;
         wide = 2;
-        is = sym (by_two s i b _ x (omega arith) refl (checked-scalar _ _ _ _ (is-follow b f) (omega arith) (allowed-in (value_of_two a b) (omega arith))));
+        is = sym (by_two s i b _ x (omega arith) refl (checked-scalar _ _ _ _ (is-follow b f) (omega arith) (allowed-below (value_of_two a b) (omega arith))));
         inside = omega arith;
         quiet = quiet_by s (i + 2) (i + 1) i (i - 1) (omega arith) (omega arith) (omega arith) (omega arith) (omega arith) (omega arith);
         free = low;
@@ -186,10 +196,15 @@ module _ (any : Bool) (s : List ℕ) (i e : ℕ) (l : 3 ≤ i) (h : i < e) (fit 
       let k = m.0 in
       let mh = m.1.high in
       let low : 0x800 ≤ value_of_three a b c = below_or_not 0xE0 a (λ t. omega arith) (λ t. let l = g.e0 (omega arith) in omega arith) in
+      let no_surrogate : allowed (value_of_three a b c) ≡ true =
+      below_or_not a 0xED (λ t. allowed-below (value_of_three a b c) (omega arith))
+      (λ t. below_or_not 0xED a (λ u. allowed-above (value_of_three a b c) (omega arith) (omega arith))
+      (λ u. let l = g.ed (omega arith) in allowed-below (value_of_three a b c) (omega arith)))
+      in
       record {
         value = value_of_three a b c;
         wide = 3;
-        is = sym (by_three s i b c _ x (omega arith) refl refl (checked-scalar (follows b && follows c) _ _ _ (rw (is-follow b f) (is-follow c m.1)) low (allowed-in (value_of_three a b c) (omega arith))));
+        is = sym (by_three s i b c _ x (omega arith) refl refl (checked-scalar (follows b && follows c) _ _ _ (rw (is-follow b f) (is-follow c m.1)) low no_surrogate));
         inside = omega arith;
         quiet = quiet_by s (i + 3) (i + 2) (i + 1) i (omega arith) (omega arith) (omega arith) (omega arith) (omega arith) (omega arith);
         free = λ _. no-control (value_of_three a b c) (omega arith);
@@ -213,7 +228,7 @@ module _ (any : Bool) (s : List ℕ) (i e : ℕ) (l : 3 ≤ i) (h : i < e) (fit 
       record {
         value = value_of_four a b c d;
         wide = 4;
-        is = sym (by-four s i b c d _ x (omega arith) refl refl refl (checked-scalar (follows b && (follows c && follows d)) _ _ _ (rw (is-follow b f, is-follow c m.1) (is-follow d z)) low (allowed-in (value_of_four a b c d) high)));
+        is = sym (by-four s i b c d _ x (omega arith) refl refl refl (checked-scalar (follows b && (follows c && follows d)) _ _ _ (rw (is-follow b f, is-follow c m.1) (is-follow d z)) low (allowed-above (value_of_four a b c d) (omega arith) high)));
         inside = omega arith;
         quiet = quiet_by s (i + 4) (i + 3) (i + 2) (i + 1) (omega arith) (omega arith) (omega arith) (omega arith) (omega arith) (omega arith);
         free = λ _. no-control (value_of_four a b c d) (omega arith);

@@ -1,10 +1,9 @@
 -- Auxiliary: what the contracts of the private functions cite, and no public contract.
-use Rattle.std.specs.Prelude.{ℕ, zero, suc, ◌+◌, ◌≤◌, Bool, true, false, ◌&&◌, ◌||◌, cond, ◌≡◌, List, ltb, eqb, length, get_or, drop}
+use Rattle.std.specs.Prelude.{ℕ, zero, suc, ◌+◌, ◌≤◌, Bool, true, false, ◌&&◌, ◌||◌, cond, ◌≡◌, List, ltb, eqb, get_or, drop}
 use Rattle.identity.specs.Within.{within}
 use Rattle.identity.specs.Utf8.{before, decode, utf8}
 use Rattle.identity.specs.Unicode.{control, white_space}
 use Rattle.identity.specs.Identity.{valid_text}
-use Rattle.identity.specs.Order.{compared}
 
 -- ASCII without controls.
 abbrev pub printable : ℕ → Bool
@@ -53,9 +52,3 @@ id_from s i = valid_text (cond (eqb i 0) (decode (drop i s)) (before 0x61 (decod
 -- A scalar that no identity has at that place: a control, or white space at an edge.
 abbrev pub refused : ℕ → Bool → Bool
 refused v edge = control v || (edge && white_space v)
-
--- The first i bytes of both texts are the same, so that the rest decides.
-pub record Tied (a b : List ℕ) (i : ℕ) : Type 0 where
-  pub inside_left : i ≤ length a
-  pub inside_right : i ≤ length b
-  pub same : compared a b ≡ compared (drop i a) (drop i b)

@@ -1,16 +1,12 @@
--- UTF-8 as document 01 condenses it from RFC 3629: the scalars, their bytes, and the scalars of a text.
-use Rattle.std.specs.Prelude.{ℕ, zero, suc, ◌+◌, ◌*◌, ◌/◌, ◌%◌, ◌-◌, Bool, true, false, ◌&&◌, cond, List, [], ◌∷◌, ◌++◌, ltb, leb, get_or}
+-- UTF-8: the scalars, their bytes, and the scalars of a text.
+use Rattle.std.specs.Prelude.{ℕ, zero, suc, ◌+◌, ◌*◌, ◌/◌, ◌%◌, ◌-◌, Bool, true, false, ◌&&◌, ◌||◌, cond, List, [], ◌∷◌, ◌++◌, ltb, leb, get_or}
 use Rattle.identity.specs.Within.{within}
 use Rattle.identity.specs.declared.decode.Decoded.{Decoded}
 use Rattle.identity.specs.declared.decode.Decoded.TheVariants.{Scalar, Malformed}
 
--- The scalars that a text may have. RFC 3629 also excludes D800 to DFFF; document 01's condensed rule does not.
+-- The scalars that a text may have: up to 10FFFF, and none of D800 to DFFF, each of which is half of a pair of UTF-16.
 unfoldable pub allowed : ℕ → Bool
-allowed v = leb v 0x10FFFF
-
-abbrev pub all_allowed : List ℕ → Bool
-all_allowed [] = true
-all_allowed (v ∷ vs) = allowed v && all_allowed vs
+allowed v = leb v 0xD7FF || within 0xE000 0x10FFFF v
 
 -- The bytes of a scalar, by the table of RFC 3629, section 3: six bits to each following byte, the highest bits first.
 unfoldable pub encode : ℕ → List ℕ

@@ -12,12 +12,17 @@ due p q r = leb 0xC0 p || (leb 0xE0 q || leb 0xF0 r)
 abbrev pub low_after : ℕ → ℕ → ℕ → ℕ → Bool
 low_after a low p b = eqb p a && ltb b low
 
--- Some scalar has b after p: A0 is the least after E0, 90 after F0, 8F the last after F4; after C2 the bytes below A0 are controls.
+-- b stands after the first byte a and is not lower than `high`.
+abbrev pub high_after : ℕ → ℕ → ℕ → ℕ → Bool
+high_after a high p b = eqb p a && leb high b
+
+-- Some scalar has b after p: A0 is the least after E0, 90 after F0; 9F is the last after ED, 8F after F4; after C2 the bytes below A0 are controls.
 abbrev pub second : Bool → ℕ → ℕ → Bool
 second any b p =
     follows b
     && ((any || not (low_after 0xC2 0xA0 p b))
-    && (not (low_after 0xE0 0xA0 p b) && (not (low_after 0xF0 0x90 p b) && not (eqb p 0xF4 && leb 0x90 b))))
+    && ((not (low_after 0xE0 0xA0 p b) && not (low_after 0xF0 0x90 p b))
+    && (not (high_after 0xED 0xA0 p b) && not (high_after 0xF4 0x90 p b))))
 
 -- Some scalar starts with b.
 abbrev pub starts : Bool → ℕ → Bool

@@ -1,55 +1,51 @@
 // The order of two identities by byte.
-ghost use Rattle.std.specs.Prelude.{◌≡◌, ◌+◌, ◌≤◌, length};
+ghost use Rattle.std.specs.Prelude.{◌≡◌, ◌≤◌, length};
 ghost use Rattle.identity.specs.Order.{compared, sign};
 ghost use Rattle.identity.specs.Text.{identity_text};
-ghost use Rattle.identity.specs.Scan.{every, same_at, Tied};
+ghost use Rattle.identity.specs.Scan.{every, same_at};
 
 use crate::place::identity_text;
 use crate::{ByteOrder, IdentityPlace};
 
-// Whether 16 bytes of both from `at` are the same: no branch among them, so that they are compared at once.
+// Whether the first 16 bytes of both are the same: no branch among them, so that they are compared at once.
 #[tactic(auto, using(crate::proofs::Steps::block_laws))]
-fn same_block(left: &[u8], right: &[u8], at: usize) -> bool
-    requires left_inside { at + 16 ≤ length left.now }
-    requires right_inside { at + 16 ≤ length right.now }
-    ensures { result ≡ every (same_at left.now right.now) at 16 }
+fn same_block(left: &[u8], right: &[u8]) -> bool
+    requires left_inside { 16 ≤ length left.now }
+    requires right_inside { 16 ≤ length right.now }
+    ensures { result ≡ every (same_at left.now right.now) 0 16 }
 {
     let mut same = true;
     for k in 0..16 {
-        same = same & (left[at + k] == right[at + k]);
+        same = same & (left[k] == right[k]);
     }
     same
 }
 
-// A place up to which both are the same, by blocks of 16.
-#[tactic(auto, using(crate::proofs::Order::order_laws))]
-fn past_same(left: &[u8], right: &[u8]) -> usize
-    ensures { Tied left.now right.now result }
-{
-    let mut i = 0;
-    while i + 16 <= left.len() && i + 16 <= right.len() && same_block(left, right, i) {
-        i += 16;
-    }
-    i
-}
-
-// The order of two texts, by blocks while they are the same and then byte by byte.
+// The order of two texts, by two places that move on together, each what is left of its text: by blocks while they are the same, then byte by byte.
 #[tactic(auto, using(crate::proofs::Order::order_laws))]
 pub fn compare_bytes(left: &[u8], right: &[u8]) -> ByteOrder
     ensures { result ≡ compared left.now right.now }
 {
-    for i in past_same(left, right)..left.len() {
-        if right.len() <= i {
+    let mut a = left;
+    let mut b = right;
+    while 16 <= a.len() && 16 <= b.len() && same_block(a, b) {
+        a = &a[16..];
+        b = &b[16..];
+    }
+    while 0 < a.len() {
+        if b.len() == 0 {
             return ByteOrder::Greater;
         }
-        if left[i] < right[i] {
+        if a[0] < b[0] {
             return ByteOrder::Less;
         }
-        if right[i] < left[i] {
+        if b[0] < a[0] {
             return ByteOrder::Greater;
         }
+        a = &a[1..];
+        b = &b[1..];
     }
-    if left.len() < right.len() {
+    if 0 < b.len() {
         ByteOrder::Less
     } else {
         ByteOrder::Equal

@@ -30,7 +30,8 @@ fn byte_at(text: &[u8], at: usize) -> u8
 fn checked(following: bool, low: u32, value: u32, width: usize) -> Decoded
     ensures { result ≡ checked following low value width }
 {
-    if following & ((low <= value) & (value <= 0x10FFFF)) {
+    let allowed = matches!(value, 0x0000..=0xD7FF | 0xE000..=0x10FFFF);
+    if following & ((low <= value) & allowed) {
         Decoded::Scalar(value, width)
     } else {
         Decoded::Malformed

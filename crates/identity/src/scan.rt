@@ -39,7 +39,7 @@ fn second(any: bool, b: u8, p: u8) -> bool
 {
     let free = any | !((p == 0xC2) & (b < 0xA0));
     let low = ((p == 0xE0) & (b < 0xA0)) | ((p == 0xF0) & (b < 0x90));
-    let high = (p == 0xF4) & (0x90 <= b);
+    let high = ((p == 0xED) & (0xA0 <= b)) | ((p == 0xF4) & (0x90 <= b));
     follows(b) & (free & !low & !high)
 }
 

@@ -1,7 +1,6 @@
 //! The UTF-8 test and `valid_id` on texts of chance, long enough for their blocks: compared, not timed.
 use crate::linked;
 use crate::rng::Rng;
-use pack::utf8;
 use valid_id::image::call_valid_id;
 
 const SEED: u64 = 7;
@@ -12,7 +11,7 @@ const EDGES: [u32; 22] = [
     0xd7ff, 0xe000, 0xffff, 0x10000, 0xfffff, 0x10ffff,
 ];
 /// Bytes on each edge of what UTF-8 has first and after.
-const BYTES: [u8; 22] = [
+pub const BYTES: [u8; 22] = [
     0x00, 0x1f, 0x20, 0x7e, 0x7f, 0x80, 0x8f, 0x90, 0x9f, 0xa0, 0xbf, 0xc0, 0xc1, 0xc2, 0xdf, 0xe0, 0xed,
     0xef, 0xf0, 0xf4, 0xf5, 0xff,
 ];
@@ -47,15 +46,14 @@ fn damage(rng: &mut Rng, text: &mut Vec<u8>) {
     }
 }
 
-/// Where this check and the Rust differ. Document 01's rule has surrogates, which no `str` can hold.
-fn difference(text: &[u8]) -> Option<&'static str> {
-    let rule = utf8::scan(text);
+/// Where this check and the Rust differ.
+pub fn difference(text: &[u8]) -> Option<&'static str> {
     let read = core::str::from_utf8(text);
-    if linked::is_utf8(text) != rule.is_ok() || read.is_ok() != (rule == Ok(false)) {
+    if linked::is_utf8(text) != read.is_ok() {
         return Some("UTF-8");
     }
     let valid = read.map(call_valid_id).unwrap_or(false);
-    (linked::valid_id(text) != valid && rule != Ok(true)).then_some("valid_id")
+    (linked::valid_id(text) != valid).then_some("valid_id")
 }
 
 /// Whether both agree with the Rust on so many texts, half of them damaged.

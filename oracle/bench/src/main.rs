@@ -1,6 +1,7 @@
 //! Measures boomerang's Rust and this check on the same packs: bench [FAMILY..] [--quick]
 mod chance;
 mod decode;
+mod edges;
 mod families;
 mod linked;
 mod long;
@@ -72,6 +73,7 @@ fn main() -> ExitCode {
     if options.takes(TEXTS) {
         agreed &= texts::run(options.effort());
         agreed &= chance::agree(1_000_000);
+        agreed &= edges::agree(options.quick);
     }
     println!("\n{}", if agreed { "all answers agree" } else { "SOME ANSWERS DIFFER" });
     ExitCode::from(!agreed as u8)

@@ -7,8 +7,6 @@ pub enum Answer {
     Accepted { stations: Option<u64>, links: u64 },
     /// The refusal's number and the numbers after it.
     Refused(Vec<u64>),
-    /// An identity that passes document 01's rule and that no `str` can hold.
-    Skip,
     /// The case says neither enclave nor federate.
     UnknownKind,
 }
@@ -24,7 +22,6 @@ impl fmt::Display for Answer {
                 write!(to, "refused")?;
                 numbers.iter().try_for_each(|number| write!(to, " {number}"))
             }
-            Answer::Skip => write!(to, "skip"),
             Answer::UnknownKind => write!(to, "unknown kind"),
         }
     }

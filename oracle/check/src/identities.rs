@@ -15,23 +15,17 @@ pub struct Identities {
 }
 
 impl Identities {
-    /// None where some identity is not a Rust text.
-    pub fn of(case: &Case, rows: &[Row]) -> Option<Self> {
+    /// Packing has passed, so that each identity is a Rust text.
+    pub fn of(case: &Case, rows: &[Row]) -> Self {
         let mut all = Identities { text: String::new(), starts: HashMap::new(), places: HashMap::new() };
-        let mut surrogate = false;
         for row in rows {
             for (at, house) in row.identities() {
                 let place = [house.into(), row.numbers[at], row.numbers[at + 1]];
                 let part = case.part(house, place[1], place[2]).expect("packing passed");
-                match std::str::from_utf8(part) {
-                    Ok(text) => all.add(place, text),
-                    Err(_) => surrogate = true,
-                }
-                let scanned = pack::utf8::scan(part).expect("packing passed");
-                assert_eq!(scanned, std::str::from_utf8(part).is_err(), "{part:02x?}");
+                all.add(place, std::str::from_utf8(part).expect("packing passed"));
             }
         }
-        (!surrogate).then_some(all)
+        all
     }
 
     fn add(&mut self, place: Place, text: &str) {

@@ -46,9 +46,7 @@ pub fn stations(rows: &[Row]) -> Vec<&[Row]> {
 
 fn after_packing(case: &Case, kind: Kind) -> Answer {
     let rows = rows(case);
-    let Some(identities) = Identities::of(case, &rows) else {
-        return Answer::Skip;
-    };
+    let identities = Identities::of(case, &rows);
     let stations = stations(&rows);
     let enclaves: Vec<Enclave> = stations.iter().map(|rows| Enclave::of(rows, &identities)).collect();
     let images: Vec<EnclaveImage> = enclaves.iter().map(Enclave::image).collect();

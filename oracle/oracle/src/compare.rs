@@ -4,13 +4,6 @@ use std::collections::BTreeMap;
 use std::fs::File;
 use std::io::{self, BufRead, BufReader, Lines};
 
-/// The oracle's line, the replayed one, and how they compare.
-enum Pair {
-    Same,
-    Skipped,
-    Different,
-}
-
 /// Prints `different N` for the first pair that differs, else how many of each answer agreed.
 pub fn print(answers: &str, replayed: &str) -> Done {
     let mut left = lines(answers)?;
@@ -26,12 +19,10 @@ pub fn print(answers: &str, replayed: &str) -> Done {
                 return different(number, &missing(ours), &missing(theirs));
             }
         };
-        let group = match pair_of(&ours, &theirs) {
-            Pair::Different => return different(number, &ours, &theirs),
-            Pair::Same => group(&ours),
-            Pair::Skipped => "skip (not compared)".into(),
-        };
-        *counts.entry(group).or_default() += 1;
+        if ours != theirs {
+            return different(number, &ours, &theirs);
+        }
+        *counts.entry(group(&ours)).or_default() += 1;
     }
     for (group, count) in counts {
         println!("{count}\t{group}");
@@ -48,21 +39,6 @@ fn different(number: u64, ours: &str, theirs: &str) -> Done {
     println!("oracle: {ours}");
     println!("replay: {theirs}");
     Ok(false)
-}
-
-/// A skip agrees with every answer that passes packing.
-fn pair_of(ours: &str, theirs: &str) -> Pair {
-    let packing = |line: &str| {
-        let number = line.strip_prefix("refused ").and_then(|rest| rest.split(' ').next());
-        number.is_some_and(|number| matches!(number, "1" | "2" | "3" | "4" | "5" | "6"))
-    };
-    if ours == theirs {
-        Pair::Same
-    } else if ours == "skip" && !packing(theirs) {
-        Pair::Skipped
-    } else {
-        Pair::Different
-    }
 }
 
 /// `accepted`, or `refused` with its number.

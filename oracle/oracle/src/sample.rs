@@ -1,6 +1,6 @@
 //! A fixed list: small cases that together meet every site, with their answers.
 use crate::{for_each, sites, Done};
-use check::{answer, Answer};
+use check::answer;
 use std::collections::{BTreeMap, BTreeSet};
 use std::fs::File;
 use std::io::{self, BufWriter, Write};
@@ -38,7 +38,7 @@ fn choose(corpus: &str, count: usize) -> io::Result<BTreeSet<u64>> {
     let mut small = Vec::new();
     for_each(corpus, |number, case| {
         let answer = answer(&case);
-        if case.size() > LARGEST || matches!(answer, Answer::Skip) {
+        if case.size() > LARGEST {
             return Ok(());
         }
         if case.size() <= SMALL {

@@ -78,13 +78,14 @@ fn strays(table: &Table) -> Vec<&'static str> {
     ways
 }
 
-const UTF8: [&str; 7] = [
+const UTF8: [&str; 8] = [
     "following byte in front",
     "C0 or C1",
     "F5 to FF",
     "cut off at the end",
     "no following byte",
     "longer than need be",
+    "surrogate",
     "over 10FFFF",
 ];
 

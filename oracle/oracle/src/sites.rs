@@ -174,7 +174,7 @@ fn presence(numbers: &[u64], station: &[Row]) -> &'static str {
 /// Why an identity is invalid.
 fn invalid(case: &Case, numbers: &[u64]) -> &'static str {
     let part = case.part(numbers[3] as u8, numbers[4], numbers[5]).expect("packing passed");
-    let text = std::str::from_utf8(part).expect("no skip");
+    let text = std::str::from_utf8(part).expect("packing passed");
     let (Some(first), Some(last)) = (text.chars().next(), text.chars().last()) else {
         return "empty";
     };

@@ -125,7 +125,7 @@ fn check_identities(case: &Case, record: &[u8]) -> Result<(), Reason> {
     for (at, house) in row.identities() {
         let text = case.part(house, row.numbers[at], row.numbers[at + 1]);
         let text = text.ok_or((5, "outside its text"))?;
-        utf8::scan(text).map_err(|why| (6, why))?;
+        utf8::check(text).map_err(|why| (6, why))?;
     }
     Ok(())
 }

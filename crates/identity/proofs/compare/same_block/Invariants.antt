@@ -4,4 +4,4 @@ use Rattle.identity.specs.Scan.{every, same_at}
 use Rattle.identity.proofs.compare.same_block.Given as goal
 
 abbrev pub invariant-loop-k : goal.invariant-loop-k
-invariant-loop-k l = l.same ≡ every (same_at l.left l.right) l.at l.k
+invariant-loop-k l = l.same ≡ every (same_at l.left l.right) 0 l.k
