@@ -1,4 +1,4 @@
--- Two sets of code points of the Unicode Character Database, version 18.0.0, as ranges. Neither has changed since 6.3.0.
+-- Two sets of code points of the Unicode Character Database, version 17.0.0, as ranges.
 use Rattle.std.specs.Prelude.{ℕ, Bool, false, ◌||◌, List, [], ◌∷◌}
 use Rattle.identity.specs.Within.{within}
 
