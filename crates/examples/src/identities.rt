@@ -1,37 +1,28 @@
 // Examples from outside for the text of an identity, a line for each: bytes or places, and the library's answer.
+use crate::words;
 use identity::IdentityPlace;
 use std::alloc::{AllocError, Global};
 
-// The bytes in hexadecimal, or `-` where there are none.
-fn write_hex(out: &mut String, text: &[u8]) -> Result<(), AllocError> {
-    if text.is_empty() {
-        return write!(out, "-");
-    }
-    for b in text {
-        write!(out, "{b:02x}")?;
-    }
-    Ok(())
-}
-
 // A text, whether it is UTF-8, and whether it is a valid identity.
 fn show_text(out: &mut String, text: &[u8]) -> Result<(), AllocError> {
-    write_hex(out, text)?;
+    words::hex(out, text)?;
     let utf8 = if identity::scan::is_utf8(text) {
-        "utf-8"
+        " utf-8"
     } else {
-        "malformed"
+        " malformed"
     };
+    out.push_str(utf8)?;
     let valid = if identity::scan::valid_id(text) {
-        "valid"
+        " valid\n"
     } else {
-        "invalid"
+        " invalid\n"
     };
-    writeln!(out, " {utf8} {valid}")
+    out.push_str(valid)
 }
 
 // Texts with bars between them.
 fn show_texts(out: &mut String, heading: &str, texts: &[u8]) -> Result<(), AllocError> {
-    writeln!(out, "{heading}")?;
+    words::answer(out, heading, &[])?;
     for text in texts.split(|b| *b == b'|') {
         show_text(out, text)?;
     }
@@ -57,7 +48,7 @@ fn show_characters(
     heading: &str,
     characters: &[u8],
 ) -> Result<(), AllocError> {
-    writeln!(out, "{heading}")?;
+    words::answer(out, heading, &[])?;
     for character in characters.split(|b| *b == b'|') {
         show_character(out, alloc, character)?;
     }
@@ -90,13 +81,14 @@ const HOUSE: &[u8] = b"abc\xFFz";
 fn show_place(out: &mut String, name: &str) -> Result<(), AllocError> {
     let place = place(name);
     let inside = if identity::place::place_inside(BATCH, HOUSE, place) {
-        "inside"
+        " inside "
     } else {
-        "outside"
+        " outside "
     };
-    write!(out, "{name} {inside} ")?;
-    write_hex(out, identity::place::identity_text(BATCH, HOUSE, place))?;
-    writeln!(out)
+    out.push_str(name)?;
+    out.push_str(inside)?;
+    words::hex(out, identity::place::identity_text(BATCH, HOUSE, place))?;
+    out.push_str("\n")
 }
 
 // Two places and the order of their texts.
@@ -104,8 +96,13 @@ fn show_order(out: &mut String, names: &str) -> Result<(), AllocError> {
     let Some((left, right)) = names.split_once(' ') else {
         return Ok(());
     };
-    let order = identity::compare::compare_utf8(BATCH, HOUSE, place(left), place(right));
-    writeln!(out, "{names} {order}")
+    out.push_str(names)?;
+    match identity::compare::compare_utf8(BATCH, HOUSE, place(left), place(right)) {
+        0 => out.push_str(" 0\n"),
+        1 => out.push_str(" 1\n"),
+        -1 => out.push_str(" -1\n"),
+        _ => out.push_str(" ?\n"),
+    }
 }
 
 fn utf_8(out: &mut String) -> Result<(), AllocError> {
@@ -179,14 +176,11 @@ fn characters(out: &mut String, alloc: Global) -> Result<(), AllocError> {
 }
 
 fn places(out: &mut String) -> Result<(), AllocError> {
-    writeln!(
-        out,
-        "places in the batch text abcabd and the house text abc FF z"
-    )?;
+    out.push_str("places in the batch text abcabd and the house text abc FF z\n")?;
     for name in "b06|b07|b23|b51|b52|b60|b61|b70|b**|h05|h31|h50|h06|h60|h0*".split('|') {
         show_place(out, name)?;
     }
-    writeln!(out, "orders")?;
+    out.push_str("orders\n")?;
     for names in "b03 b03|b03 b33|b33 b03|b03 h03|h03 b33|b02 b03|b03 b32|b00 b01|b01 b00\
         |b60 h00|b07 b01|b01 h51|b70 h42|h31 h41|h41 h31|b01 h32"
         .split('|')

@@ -1,5 +1,7 @@
 // Packs by hand for each packing refusal, a line for each: what is set in it, and the library's answer.
-use crate::refused::write_refusal;
+ghost use Rattle.std.specs.Prelude.{◌<◌};
+
+use crate::words;
 use packing::rules::check_packing;
 use packing::starts::table_starts;
 use packing::{PackAnswer, PackKind};
@@ -22,10 +24,10 @@ const HOUSE: &[u8] = b"h\xFF";
 
 fn write_packed(out: &mut String, answer: PackAnswer<'_>) -> Result<(), AllocError> {
     match answer {
-        PackAnswer::Pack(_) => writeln!(out, " packed"),
+        PackAnswer::Pack(_) => out.push_str(" packed\n"),
         PackAnswer::Refused(refusal) => {
-            write!(out, " ")?;
-            write_refusal(out, refusal)
+            out.push_str(" ")?;
+            words::refused(out, refusal)
         }
     }
 }
@@ -35,10 +37,21 @@ fn write_answer(out: &mut String, kind: PackKind, pack: &[u8]) -> Result<(), All
     write_packed(out, check_packing(kind, pack, BATCH, HOUSE))
 }
 
+// The number of a digit in hexadecimal.
+fn hex(digit: u8) -> u8
+    ensures { result < 16 }
+{
+    match digit {
+        b'0'..=b'9' => digit - b'0',
+        _ => (digit % 16 + 9) % 16,
+    }
+}
+
 // Four digits in hexadecimal: a byte's place in its record, and its value.
-fn set_byte(record: &mut [u8; 64], item: &str) {
-    if let Ok(item) = u64::from_str_radix(item, 16) {
-        record[(item / 256 % 64) as usize] = (item % 256) as u8;
+fn set_byte(record: &mut [u8; 64], item: &[u8]) {
+    if let [a, b, c, d] = item {
+        let at = hex(*a) * 16 + hex(*b);
+        record[(at % 64) as usize] = hex(*c) * 16 + hex(*d);
     }
 }
 
@@ -48,7 +61,7 @@ fn build(alloc: Global, text: &str) -> Result<Vec<u8>, AllocError> {
     for items in text.split('/') {
         let mut record = [0u8; 64];
         for item in items.split(' ') {
-            set_byte(&mut record, item);
+            set_byte(&mut record, item.as_bytes());
         }
         pack.extend_from_slice(&record)?;
     }
@@ -63,10 +76,10 @@ fn show_packs(
     heading: &str,
     packs: &str,
 ) -> Result<(), AllocError> {
-    writeln!(out, "{heading}")?;
+    words::answer(out, heading, &[])?;
     for text in packs.split('|') {
         let pack = build(alloc, text)?;
-        write!(out, "{text}")?;
+        out.push_str(text)?;
         write_answer(out, kind, &pack)?;
     }
     Ok(())
@@ -87,7 +100,12 @@ fn show_byte(out: &mut String, table: usize, at: usize, value: u8) -> Result<(),
     if let Some(byte) = record.get_mut(at) {
         *byte = value;
     }
-    write!(out, "table {table} byte {at} is {value}")?;
+    out.push_str("table")?;
+    words::number(out, table as u64)?;
+    out.push_str(" byte")?;
+    words::number(out, at as u64)?;
+    out.push_str(" is")?;
+    words::number(out, value as u64)?;
     write_answer(out, kind, &pack[..start + 64])
 }
 
@@ -106,7 +124,7 @@ fn show_table(out: &mut String, table: usize, used: usize) -> Result<(), AllocEr
 }
 
 fn tables(out: &mut String) -> Result<(), AllocError> {
-    writeln!(out, "one byte of a record")?;
+    out.push_str("one byte of a record\n")?;
     for (table, used) in USED.iter().enumerate() {
         show_table(out, table, *used)?;
     }
@@ -200,7 +218,8 @@ fn show_texts(out: &mut String, text: &[u8], batch: usize, house: usize) -> Resu
     let mut pack = [0u8; 64];
     pack[0] = 1;
     pack[9] = 1;
-    write!(out, "{batch} {house}")?;
+    words::first_number(out, batch as u64)?;
+    words::number(out, house as u64)?;
     write_packed(
         out,
         check_packing(PackKind::Enclave, &pack, batch_text, house_text),
@@ -208,10 +227,7 @@ fn show_texts(out: &mut String, text: &[u8], batch: usize, house: usize) -> Resu
 }
 
 fn texts(out: &mut String, alloc: Global) -> Result<(), AllocError> {
-    writeln!(
-        out,
-        "lengths of the texts, the batch text first; the identity has 65,536 bytes"
-    )?;
+    out.push_str("lengths of the texts, the batch text first; the identity has 65,536 bytes\n")?;
     let text = vec![in alloc; 0u8; LONGEST_TEXT + 1]?;
     show_texts(out, &text, 0, 0)?;
     show_texts(out, &text, LONGEST_TEXT - 1, 0)?;
@@ -223,7 +239,7 @@ fn texts(out: &mut String, alloc: Global) -> Result<(), AllocError> {
 
 // An enclave and rows of table 9: up to one record more than a pack may have.
 fn lengths(out: &mut String, alloc: Global) -> Result<(), AllocError> {
-    writeln!(out, "lengths of the pack")?;
+    out.push_str("lengths of the pack\n")?;
     let mut pack = vec![in alloc; 0u8; LONGEST_PACK + 64]?;
     for record in pack.chunks_exact_mut(64) {
         record[0] = 9;
@@ -241,7 +257,7 @@ fn lengths(out: &mut String, alloc: Global) -> Result<(), AllocError> {
         LONGEST_PACK + 64,
     ] {
         if let Some(part) = pack.get(..len) {
-            write!(out, "{len}")?;
+            words::first_number(out, len as u64)?;
             write_answer(out, PackKind::Enclave, part)?;
         }
     }
@@ -251,17 +267,18 @@ fn lengths(out: &mut String, alloc: Global) -> Result<(), AllocError> {
 // Where each table begins in an enclave's pack.
 fn show_starts(out: &mut String, alloc: Global, text: &str) -> Result<(), AllocError> {
     let bytes = build(alloc, text)?;
-    write!(out, "{text}:")?;
+    out.push_str(text)?;
+    out.push_str(":")?;
     if let PackAnswer::Pack(pack) = check_packing(PackKind::Enclave, &bytes, BATCH, HOUSE) {
         for start in table_starts(pack) {
-            write!(out, " {start}")?;
+            words::number(out, start as u64)?;
         }
     }
-    writeln!(out)
+    out.push_str("\n")
 }
 
 fn starts(out: &mut String, alloc: Global) -> Result<(), AllocError> {
-    writeln!(out, "where the tables begin")?;
+    out.push_str("where the tables begin\n")?;
     for text in "0001|0001/0002/0007/0007/0018|0001/0003/0003/0018/0018|0001/0002/0003/0004/0005/0006\
         /0007/0008/0009/000A/000B/000C/000D/000E/000F/0010/0011/0012/0013/0014/0015/0016/0017/0018"
         .split('|')
