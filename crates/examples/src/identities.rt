@@ -20,15 +20,6 @@ fn show_text(out: &mut String, text: &[u8]) -> Result<(), AllocError> {
     out.push_str(valid)
 }
 
-// Texts with bars between them.
-fn show_texts(out: &mut String, heading: &str, texts: &[u8]) -> Result<(), AllocError> {
-    words::answer(out, heading, &[])?;
-    for text in texts.split(|b| *b == b'|') {
-        show_text(out, text)?;
-    }
-    Ok(())
-}
-
 // A character after a letter, before one, and between two.
 fn show_character(out: &mut String, alloc: Global, character: &[u8]) -> Result<(), AllocError> {
     let mut text = Vec::new(alloc);
@@ -41,16 +32,26 @@ fn show_character(out: &mut String, alloc: Global, character: &[u8]) -> Result<(
     show_text(out, &text)
 }
 
-// Characters with bars between them.
-fn show_characters(
+#[derive(Clone, Copy)]
+enum Shown {
+    Text,
+    Character,
+}
+
+// A heading, and texts or characters with bars between them.
+fn show_list(
     out: &mut String,
     alloc: Global,
+    shown: Shown,
     heading: &str,
-    characters: &[u8],
+    texts: &[u8],
 ) -> Result<(), AllocError> {
     words::answer(out, heading, &[])?;
-    for character in characters.split(|b| *b == b'|') {
-        show_character(out, alloc, character)?;
+    for text in texts.split(|b| *b == b'|') {
+        match shown {
+            Shown::Text => show_text(out, text)?,
+            Shown::Character => show_character(out, alloc, text)?,
+        }
     }
     Ok(())
 }
@@ -105,28 +106,36 @@ fn show_order(out: &mut String, names: &str) -> Result<(), AllocError> {
     }
 }
 
-fn utf_8(out: &mut String) -> Result<(), AllocError> {
-    show_texts(
+fn utf_8(out: &mut String, alloc: Global) -> Result<(), AllocError> {
+    show_list(
         out,
+        alloc,
+        Shown::Text,
         "RFC 3629, section 7",
         b"\x41\xE2\x89\xA2\xCE\x91\x2E|\xED\x95\x9C\xEA\xB5\xAD\xEC\x96\xB4\
         |\xE6\x97\xA5\xE6\x9C\xAC\xE8\xAA\x9E|\xEF\xBB\xBF\xF0\xA3\x8E\xB4",
     )?;
-    show_texts(
+    show_list(
         out,
+        alloc,
+        Shown::Text,
         "first bytes",
         b"\x00|\x7E|\x7F|\x80|\xBF|\xC0\x80|\xC1\xBF|\xC2\x80|\xC2\xBF|\xDF\xBF\
         |\xE0\xA0\x80|\xEF\xBF\xBF|\xF0\x90\x80\x80|\xF4\x8F\xBF\xBF\
         |\xF5\x80\x80\x80|\xF7\xBF\xBF\xBF|\xF8\x88\x80\x80\x80|\xFE|\xFF",
     )?;
-    show_texts(
+    show_list(
         out,
+        alloc,
+        Shown::Text,
         "scalars in too many bytes, too high, surrogates and their neighbours",
         b"\xE0\x80\x80|\xE0\x9F\xBF|\xF0\x80\x80\x80|\xF0\x8F\xBF\xBF\
         |\xF4\x90\x80\x80|\xF4\xBF\xBF\xBF|\xED\x9F\xBF|\xED\xA0\x80|\xED\xBF\xBF|\xEE\x80\x80",
     )?;
-    show_texts(
+    show_list(
         out,
+        alloc,
+        Shown::Text,
         "following bytes out of range, missing and left over",
         b"\xC3\x7F|\xC3\xC0|\xE1\x7F\x80|\xE1\xC0\x80|\xE1\x80\x7F|\xE1\x80\xC0\
         |\xF1\x7F\x80\x80|\xF1\xC0\x80\x80|\xF1\x80\x7F\x80|\xF1\x80\xC0\x80\
@@ -135,14 +144,18 @@ fn utf_8(out: &mut String) -> Result<(), AllocError> {
     )
 }
 
-fn identities(out: &mut String) -> Result<(), AllocError> {
-    show_texts(
+fn identities(out: &mut String, alloc: Global) -> Result<(), AllocError> {
+    show_list(
         out,
+        alloc,
+        Shown::Text,
         "document 01, and the empty text",
         b" a|\xC2\xA0|a b|\xE2\x80\x8B|",
     )?;
-    show_texts(
+    show_list(
         out,
+        alloc,
+        Shown::Text,
         "around a block of 16",
         b"abcdefghijklmno|abcdefghijklmnop|abcdefghijklmnopq|abcdefghijklmnopqrstuvwxyz012345\
         |abcdefghijklmno\xFF|abcdefghijklmnop\xFF|abcdefgh jklmnopqrstuvw\xC3\xA9z\
@@ -151,25 +164,28 @@ fn identities(out: &mut String) -> Result<(), AllocError> {
 }
 
 fn characters(out: &mut String, alloc: Global) -> Result<(), AllocError> {
-    show_characters(
+    show_list(
         out,
         alloc,
+        Shown::Character,
         "White_Space: first, last and in the middle",
         b"\x09|\x0A|\x0B|\x0C|\x0D|\x20|\xC2\x85|\xC2\xA0|\xE1\x9A\x80\
         |\xE2\x80\x80|\xE2\x80\x81|\xE2\x80\x82|\xE2\x80\x83|\xE2\x80\x84|\xE2\x80\x85\
         |\xE2\x80\x86|\xE2\x80\x87|\xE2\x80\x88|\xE2\x80\x89|\xE2\x80\x8A\
         |\xE2\x80\xA8|\xE2\x80\xA9|\xE2\x80\xAF|\xE2\x81\x9F|\xE3\x80\x80",
     )?;
-    show_characters(
+    show_list(
         out,
         alloc,
+        Shown::Character,
         "next to White_Space, and no control",
         b"\x21|\xC2\xA1|\xE1\x99\xBF|\xE1\x9A\x81|\xE1\xBF\xBF|\xE2\x80\x8B|\xE2\x80\xA7\
         |\xE2\x80\xAA|\xE2\x80\xAE|\xE2\x80\xB0|\xE2\x81\x9E|\xE2\x81\xA0|\xE2\xBF\xBF|\xE3\x80\x81",
     )?;
-    show_characters(
+    show_list(
         out,
         alloc,
+        Shown::Character,
         "controls, and 7E: first, last and in the middle",
         b"\x00|\x08|\x0E|\x1F|\x7E|\x7F|\xC2\x80|\xC2\x84|\xC2\x86|\xC2\x9F",
     )
@@ -191,8 +207,8 @@ fn places(out: &mut String) -> Result<(), AllocError> {
 }
 
 pub fn show_all(out: &mut String, alloc: Global) -> Result<(), AllocError> {
-    utf_8(out)?;
-    identities(out)?;
+    utf_8(out, alloc)?;
+    identities(out, alloc)?;
     characters(out, alloc)?;
     places(out)
 }

@@ -1,6 +1,4 @@
 // Packs by hand for each packing refusal, a line for each: what is set in it, and the library's answer.
-ghost use Rattle.std.specs.Prelude.{◌<◌};
-
 use crate::words;
 use packing::rules::check_packing;
 use packing::starts::table_starts;
@@ -8,7 +6,7 @@ use packing::{PackAnswer, PackKind};
 use std::alloc::{AllocError, Global};
 
 // How many bytes a record of each table uses.
-const USED: [usize; 25] = [
+const USED: [u8; 25] = [
     44, 48, 44, 32, 20, 56, 12, 64, 12, 8, 8, 8, 8, 8, 8, 16, 12, 16, 16, 16, 16, 16, 8, 24, 12,
 ];
 
@@ -22,8 +20,15 @@ const BATCH: &[u8] = b"ab\xC3\xA9";
 // `h`, and a byte that no UTF-8 has.
 const HOUSE: &[u8] = b"h\xFF";
 
-fn write_packed(out: &mut String, answer: PackAnswer<'_>) -> Result<(), AllocError> {
-    match answer {
+// The answer for a pack over two texts.
+fn write_answer(
+    out: &mut String,
+    kind: PackKind,
+    pack: &[u8],
+    batch: &[u8],
+    house: &[u8],
+) -> Result<(), AllocError> {
+    match check_packing(kind, pack, batch, house) {
         PackAnswer::Pack(_) => out.push_str(" packed\n"),
         PackAnswer::Refused(refusal) => {
             out.push_str(" ")?;
@@ -32,26 +37,20 @@ fn write_packed(out: &mut String, answer: PackAnswer<'_>) -> Result<(), AllocErr
     }
 }
 
-// The answer for a pack over the two texts.
-fn write_answer(out: &mut String, kind: PackKind, pack: &[u8]) -> Result<(), AllocError> {
-    write_packed(out, check_packing(kind, pack, BATCH, HOUSE))
-}
-
 // The number of a digit in hexadecimal.
-fn hex(digit: u8) -> u8
-    ensures { result < 16 }
-{
+fn hex(digit: u8) -> u8 {
     match digit {
         b'0'..=b'9' => digit - b'0',
-        _ => (digit % 16 + 9) % 16,
+        b'A'..=b'F' => digit - b'A' + 10,
+        _ => 0,
     }
 }
 
 // Four digits in hexadecimal: a byte's place in its record, and its value.
 fn set_byte(record: &mut [u8; 64], item: &[u8]) {
     if let [a, b, c, d] = item {
-        let at = hex(*a) * 16 + hex(*b);
-        record[(at % 64) as usize] = hex(*c) * 16 + hex(*d);
+        let at = hex(*a) << 4 | hex(*b);
+        record[(at % 64) as usize] = hex(*c) << 4 | hex(*d);
     }
 }
 
@@ -80,13 +79,13 @@ fn show_packs(
     for text in packs.split('|') {
         let pack = build(alloc, text)?;
         out.push_str(text)?;
-        write_answer(out, kind, &pack)?;
+        write_answer(out, kind, &pack, BATCH, HOUSE)?;
     }
     Ok(())
 }
 
 // A record of a table with one byte set: alone where it is the first of its pack, else after an enclave's.
-fn show_byte(out: &mut String, table: usize, at: usize, value: u8) -> Result<(), AllocError> {
+fn show_byte(out: &mut String, table: u8, at: u8, value: u8) -> Result<(), AllocError> {
     let kind = if table == 0 {
         PackKind::Federate
     } else {
@@ -95,22 +94,19 @@ fn show_byte(out: &mut String, table: usize, at: usize, value: u8) -> Result<(),
     let start = if table < 2 { 0 } else { 64 };
     let mut pack = [0u8; 128];
     pack[0] = 1;
-    let record = &mut pack[start..start + 64];
-    record[0] = (table % 256) as u8;
-    if let Some(byte) = record.get_mut(at) {
-        *byte = value;
-    }
+    pack[start] = table;
+    pack[start + (at % 64) as usize] = value;
     out.push_str("table")?;
     words::number(out, table as u64)?;
     out.push_str(" byte")?;
     words::number(out, at as u64)?;
     out.push_str(" is")?;
     words::number(out, value as u64)?;
-    write_answer(out, kind, &pack[..start + 64])
+    write_answer(out, kind, &pack[..start + 64], BATCH, HOUSE)
 }
 
 // Each bit of bytes 1 to 3, the last used byte, the first unused one and the last one.
-fn show_table(out: &mut String, table: usize, used: usize) -> Result<(), AllocError> {
+fn show_table(out: &mut String, table: u8, used: u8) -> Result<(), AllocError> {
     for at in 1..4 {
         for bit in [1, 2, 4, 8, 16, 32, 64, 128] {
             show_byte(out, table, at, bit)?;
@@ -125,8 +121,8 @@ fn show_table(out: &mut String, table: usize, used: usize) -> Result<(), AllocEr
 
 fn tables(out: &mut String) -> Result<(), AllocError> {
     out.push_str("one byte of a record\n")?;
-    for (table, used) in USED.iter().enumerate() {
-        show_table(out, table, *used)?;
+    for table in 0..25 {
+        show_table(out, table, USED[table as usize])?;
     }
     Ok(())
 }
@@ -210,31 +206,27 @@ fn identities(out: &mut String, alloc: Global) -> Result<(), AllocError> {
     )
 }
 
-// An enclave whose identity has 65,536 bytes, over so many bytes of a text.
-fn show_texts(out: &mut String, text: &[u8], batch: usize, house: usize) -> Result<(), AllocError> {
-    let (Some(batch_text), Some(house_text)) = (text.get(..batch), text.get(..house)) else {
-        return Ok(());
-    };
+// An enclave whose identity has 65,536 bytes.
+fn show_texts(out: &mut String, batch: &[u8], house: &[u8]) -> Result<(), AllocError> {
     let mut pack = [0u8; 64];
     pack[0] = 1;
     pack[9] = 1;
-    words::first_number(out, batch as u64)?;
-    words::number(out, house as u64)?;
-    write_packed(
-        out,
-        check_packing(PackKind::Enclave, &pack, batch_text, house_text),
-    )
+    words::first_number(out, batch.len() as u64)?;
+    words::number(out, house.len() as u64)?;
+    write_answer(out, PackKind::Enclave, &pack, batch, house)
 }
 
 fn texts(out: &mut String, alloc: Global) -> Result<(), AllocError> {
     out.push_str("lengths of the texts, the batch text first; the identity has 65,536 bytes\n")?;
-    let text = vec![in alloc; 0u8; LONGEST_TEXT + 1]?;
-    show_texts(out, &text, 0, 0)?;
-    show_texts(out, &text, LONGEST_TEXT - 1, 0)?;
-    show_texts(out, &text, LONGEST_TEXT, LONGEST_TEXT)?;
-    show_texts(out, &text, LONGEST_TEXT + 1, LONGEST_TEXT)?;
-    show_texts(out, &text, LONGEST_TEXT, LONGEST_TEXT + 1)?;
-    show_texts(out, &text, LONGEST_TEXT + 1, LONGEST_TEXT + 1)
+    let long = vec![in alloc; 0u8; LONGEST_TEXT + 1]?;
+    let most = vec![in alloc; 0u8; LONGEST_TEXT]?;
+    let fewer = vec![in alloc; 0u8; LONGEST_TEXT - 1]?;
+    show_texts(out, b"", b"")?;
+    show_texts(out, &fewer, b"")?;
+    show_texts(out, &most, &most)?;
+    show_texts(out, &long, &most)?;
+    show_texts(out, &most, &long)?;
+    show_texts(out, &long, &long)
 }
 
 // An enclave and rows of table 9: up to one record more than a pack may have.
@@ -258,7 +250,7 @@ fn lengths(out: &mut String, alloc: Global) -> Result<(), AllocError> {
     ] {
         if let Some(part) = pack.get(..len) {
             words::first_number(out, len as u64)?;
-            write_answer(out, PackKind::Enclave, part)?;
+            write_answer(out, PackKind::Enclave, part, BATCH, HOUSE)?;
         }
     }
     Ok(())
@@ -270,8 +262,9 @@ fn show_starts(out: &mut String, alloc: Global, text: &str) -> Result<(), AllocE
     out.push_str(text)?;
     out.push_str(":")?;
     if let PackAnswer::Pack(pack) = check_packing(PackKind::Enclave, &bytes, BATCH, HOUSE) {
-        for start in table_starts(pack) {
-            words::number(out, start as u64)?;
+        let starts = table_starts(pack);
+        for start in &starts {
+            words::number(out, *start as u64)?;
         }
     }
     out.push_str("\n")

@@ -31,20 +31,13 @@ pub fn refused(out: &mut String, refusal: Refusal) -> Result<(), AllocError> {
     out.push_str("\n")
 }
 
-fn hex_digit(out: &mut String, n: u8) -> Result<(), AllocError> {
-    let digit = if n < 10 { b'0' + n } else { n % 16 + 87 };
-    out.push(char::from(digit))?;
-    Ok(())
-}
-
 // Adds bytes in hexadecimal, or `-` where there are none.
 pub fn hex(out: &mut String, text: &[u8]) -> Result<(), AllocError> {
     if text.is_empty() {
         out.push_str("-")?;
     }
     for b in text {
-        hex_digit(out, *b / 16)?;
-        hex_digit(out, *b % 16)?;
+        write!(out, "{b:02x}")?;
     }
     Ok(())
 }
