@@ -189,19 +189,17 @@ fn halves(out: &mut String, alloc: Global) -> Result<(), AllocError> {
     )
 }
 
+// The first bytes of S.
+fn cut(out: &mut String, alloc: Global, name: &str, len: usize) -> Result<(), AllocError> {
+    let (reactor, scope) = (ReactorImage::empty(), ScopeImage::empty());
+    let mut pack = pack_of(alloc, &s(rows::enclave_s(), reactor, scope))?;
+    pack.truncate(len);
+    show_enclave_bytes(out, name, &pack, b"ab")
+}
+
 fn lengths(out: &mut String, alloc: Global) -> Result<(), AllocError> {
-    let records = s(
-        rows::enclave_s(),
-        ReactorImage::empty(),
-        ScopeImage::empty(),
-    );
-    let pack = pack_of(alloc, &records)?;
-    if let Some(part) = pack.get(..63) {
-        show_enclave_bytes(out, "63 bytes", part, b"ab")?;
-    }
-    if let Some(part) = pack.get(..65) {
-        show_enclave_bytes(out, "65 bytes", part, b"ab")?;
-    }
+    cut(out, alloc, "63 bytes", 63)?;
+    cut(out, alloc, "65 bytes", 65)?;
     let name = "identity of length 0 at the text's end";
     with_enclave(out, alloc, name, rows::enclave(2, 0, 1, 0), b"ab")
 }

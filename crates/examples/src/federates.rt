@@ -1,19 +1,14 @@
 // The cases of a line.
 use crate::rows;
-use crate::stations::{
-    add, one_half, pack_of, s, show_federate, two_halves, two_scopes, uncovered_trigger,
-};
-use cases::records;
+use crate::stations::{one_half, s, show_federate, two_halves, two_scopes, uncovered_trigger};
+use cases::records::Record;
 use schema::index::{RouteDirection, TimingDomain};
 use schema::rows::{EnclaveImage, ReactorImage, RouteImage, ScopeImage};
 use std::alloc::{AllocError, Global};
 
-// The pack of a line with the span start+len, before its stations.
-fn line(alloc: Global, name: u32, start: u64, len: u64) -> Result<Vec<u8>, AllocError> {
-    pack_of(
-        alloc,
-        &[records::federate(rows::federate(name, start, len))],
-    )
+// S with another enclave.
+fn station(enclave: EnclaveImage) -> [Record; 4] {
+    s(enclave, ReactorImage::empty(), ScopeImage::empty())
 }
 
 // S with another enclave, in a line `f` with the span 0+len.
@@ -24,30 +19,8 @@ fn one_enclave(
     enclave: EnclaveImage,
     len: u64,
 ) -> Result<(), AllocError> {
-    let mut pack = line(alloc, 2, 0, len)?;
-    add(
-        &mut pack,
-        &s(enclave, ReactorImage::empty(), ScopeImage::empty()),
-    )?;
-    show_federate(out, name, &pack, b"abf")
-}
-
-fn no_enclave(out: &mut String, alloc: Global) -> Result<(), AllocError> {
-    let pack = line(alloc, 2, 0, 0)?;
-    show_federate(out, "no station in a line, span length 0", &pack, b"abf")
-}
-
-// S twice, each time with scope 1 under scope 0.
-fn link_each(out: &mut String, alloc: Global) -> Result<(), AllocError> {
-    let root = ScopeImage::empty();
-    let under = rows::scope_under(0);
-    let mut pack = line(alloc, 2, 0, 2)?;
-    add(&mut pack, &two_scopes(rows::enclave_s(), root, under))?;
-    add(
-        &mut pack,
-        &two_scopes(rows::enclave(1, 1, 1, 0), root, under),
-    )?;
-    show_federate(out, "two stations in a line, a link each", &pack, b"abf")
+    let f = rows::federate(2, 0, len);
+    show_federate(out, alloc, name, f, &[&station(enclave)], b"abf")
 }
 
 // S twice with other enclaves, in a line with the span start+2. ` a` stands behind the line's own text.
@@ -59,26 +32,32 @@ fn two_enclaves(
     second: EnclaveImage,
     start: u64,
 ) -> Result<(), AllocError> {
-    let mut pack = line(alloc, 2, start, 2)?;
-    add(
-        &mut pack,
-        &s(first, ReactorImage::empty(), ScopeImage::empty()),
-    )?;
-    add(
-        &mut pack,
-        &s(second, ReactorImage::empty(), ScopeImage::empty()),
-    )?;
-    show_federate(out, name, &pack, b"abf a")
+    let f = rows::federate(2, start, 2);
+    let (first, second) = (station(first), station(second));
+    show_federate(out, alloc, name, f, &[&first, &second], b"abf a")
 }
 
-fn uncovered(out: &mut String, alloc: Global) -> Result<(), AllocError> {
-    let mut pack = line(alloc, 2, 0, 1)?;
-    add(&mut pack, &uncovered_trigger())?;
-    let name = "an entry that no range covers, in a line";
-    show_federate(out, name, &pack, b"abf")
+// S twice, each time with scope 1 under scope 0.
+fn link_each(out: &mut String, alloc: Global) -> Result<(), AllocError> {
+    let root = ScopeImage::empty();
+    let under = rows::scope_under(0);
+    let first = two_scopes(rows::enclave_s(), root, under);
+    let second = two_scopes(rows::enclave(1, 1, 1, 0), root, under);
+    let f = rows::federate(2, 0, 2);
+    let name = "two stations in a line, a link each";
+    show_federate(out, alloc, name, f, &[&first, &second], b"abf")
 }
 
 // Lines with routes have the text `abcddf`: the boundary `d` is at 3 and at 4.
+fn with_routes(
+    out: &mut String,
+    alloc: Global,
+    name: &str,
+    stations: &[&[Record]],
+) -> Result<(), AllocError> {
+    let f = rows::federate(5, 0, stations.len() as u64);
+    show_federate(out, alloc, name, f, stations, b"abcddf")
+}
 
 fn lone_half(
     out: &mut String,
@@ -86,12 +65,8 @@ fn lone_half(
     name: &str,
     direction: RouteDirection,
 ) -> Result<(), AllocError> {
-    let mut pack = line(alloc, 5, 0, 1)?;
-    add(
-        &mut pack,
-        &one_half(rows::enclave_s(), rows::route(3, direction)),
-    )?;
-    show_federate(out, name, &pack, b"abcddf")
+    let half = one_half(rows::enclave_s(), rows::route(3, direction));
+    with_routes(out, alloc, name, &[&half])
 }
 
 // Two halves in one station.
@@ -102,10 +77,9 @@ fn halves_together(
     first: RouteDirection,
     second: RouteDirection,
 ) -> Result<(), AllocError> {
-    let mut pack = line(alloc, 5, 0, 1)?;
     let (first, second) = (rows::route(3, first), rows::route(4, second));
-    add(&mut pack, &two_halves(rows::enclave_s(), first, second))?;
-    show_federate(out, name, &pack, b"abcddf")
+    let halves = two_halves(rows::enclave_s(), first, second);
+    with_routes(out, alloc, name, &[&halves])
 }
 
 // A half in each of two stations.
@@ -116,67 +90,47 @@ fn halves_apart(
     first: RouteImage,
     second: RouteImage,
 ) -> Result<(), AllocError> {
-    let mut pack = line(alloc, 5, 0, 2)?;
-    add(&mut pack, &one_half(rows::enclave(0, 1, 1, 0), first))?;
-    add(&mut pack, &one_half(rows::enclave(1, 1, 1, 0), second))?;
-    show_federate(out, name, &pack, b"abcddf")
+    let first = one_half(rows::enclave(0, 1, 1, 0), first);
+    let second = one_half(rows::enclave(1, 1, 1, 0), second);
+    with_routes(out, alloc, name, &[&first, &second])
 }
 
 // Both halves in each of two stations.
 fn both_twice(out: &mut String, alloc: Global) -> Result<(), AllocError> {
     let inbound = rows::route(4, RouteDirection::Inbound);
     let outbound = rows::route(4, RouteDirection::Outbound);
-    let first = rows::route(3, RouteDirection::Inbound);
-    let mut pack = line(alloc, 5, 0, 2)?;
-    add(
-        &mut pack,
-        &two_halves(rows::enclave(0, 1, 1, 0), first, outbound),
-    )?;
-    add(
-        &mut pack,
-        &two_halves(rows::enclave(1, 1, 1, 0), inbound, outbound),
-    )?;
-    show_federate(out, "both halves twice, in two stations", &pack, b"abcddf")
+    let at_three = rows::route(3, RouteDirection::Inbound);
+    let first = two_halves(rows::enclave(0, 1, 1, 0), at_three, outbound);
+    let second = two_halves(rows::enclave(1, 1, 1, 0), inbound, outbound);
+    let name = "both halves twice, in two stations";
+    with_routes(out, alloc, name, &[&first, &second])
 }
 
 // An outbound half, both halves, an inbound half: the first route is outbound.
 fn outbound_at_first(out: &mut String, alloc: Global) -> Result<(), AllocError> {
     let inbound = rows::route(4, RouteDirection::Inbound);
     let outbound = rows::route(4, RouteDirection::Outbound);
-    let first = rows::route(3, RouteDirection::Outbound);
-    let mut pack = line(alloc, 5, 0, 3)?;
-    add(&mut pack, &one_half(rows::enclave(0, 1, 1, 0), first))?;
-    add(
-        &mut pack,
-        &two_halves(rows::enclave(1, 1, 1, 0), inbound, outbound),
-    )?;
-    add(&mut pack, &one_half(rows::enclave(2, 1, 1, 0), inbound))?;
+    let at_three = rows::route(3, RouteDirection::Outbound);
+    let first = one_half(rows::enclave(0, 1, 1, 0), at_three);
+    let second = two_halves(rows::enclave(1, 1, 1, 0), inbound, outbound);
+    let third = one_half(rows::enclave(2, 1, 1, 0), inbound);
     let name = "both halves twice, in three stations, outbound first";
-    show_federate(out, name, &pack, b"abcddf")
+    with_routes(out, alloc, name, &[&first, &second, &third])
 }
 
 fn counts(out: &mut String, alloc: Global) -> Result<(), AllocError> {
     let a = rows::enclave_s();
     one_enclave(out, alloc, "S in a line", a, 1)?;
-    one_enclave(
-        out,
-        alloc,
-        "S in a line, state slots 0",
-        rows::enclave(0, 1, 0, 0),
-        1,
-    )?;
+    let no_slots = rows::enclave(0, 1, 0, 0);
+    one_enclave(out, alloc, "S in a line, state slots 0", no_slots, 1)?;
     one_enclave(out, alloc, "S in a line whose span length is 2", a, 2)?;
-    no_enclave(out, alloc)?;
+    let name = "no station in a line, span length 0";
+    show_federate(out, alloc, name, rows::federate(2, 0, 0), &[], b"abf")?;
     link_each(out, alloc)?;
-    let inbound = RouteDirection::Inbound;
-    let outbound = RouteDirection::Outbound;
-    lone_half(out, alloc, "a lone route half in a line, inbound", inbound)?;
-    lone_half(
-        out,
-        alloc,
-        "a lone route half in a line, outbound",
-        outbound,
-    )
+    let name = "a lone route half in a line, inbound";
+    lone_half(out, alloc, name, RouteDirection::Inbound)?;
+    let name = "a lone route half in a line, outbound";
+    lone_half(out, alloc, name, RouteDirection::Outbound)
 }
 
 // A bad identity is the station's own, index 0; only the order has the station's place.
@@ -187,22 +141,13 @@ fn identities(out: &mut String, alloc: Global) -> Result<(), AllocError> {
     let again = rows::enclave(4, 1, 1, 0);
     two_enclaves(out, alloc, "second identity ` a`, span 0+2", a, bad, 0)?;
     two_enclaves(out, alloc, "second identity ` a`, span 5+2", a, bad, 5)?;
-    two_enclaves(
-        out,
-        alloc,
-        "second identity as the first, span 5+2",
-        a,
-        again,
-        5,
-    )?;
-    two_enclaves(
-        out,
-        alloc,
-        "second identity below the first, span 5+2",
-        b,
-        a,
-        5,
-    )
+    let name = "second identity as the first, span 5+2";
+    two_enclaves(out, alloc, name, a, again, 5)?;
+    let name = "second identity below the first, span 5+2";
+    two_enclaves(out, alloc, name, b, a, 5)?;
+    let name = "an entry that no range covers, in a line";
+    let f = rows::federate(2, 0, 1);
+    show_federate(out, alloc, name, f, &[&uncovered_trigger()], b"abf")
 }
 
 fn boundaries(out: &mut String, alloc: Global) -> Result<(), AllocError> {
@@ -221,13 +166,8 @@ fn boundaries(out: &mut String, alloc: Global) -> Result<(), AllocError> {
     let late = rows::timed_route(4, inbound, TimingDomain::Logical, 1);
     halves_apart(out, alloc, "halves with two delays", out_first, late)?;
     let late = rows::timed_route(4, inbound, TimingDomain::Physical, 1);
-    halves_apart(
-        out,
-        alloc,
-        "halves with two domains and two delays",
-        out_first,
-        late,
-    )
+    let name = "halves with two domains and two delays";
+    halves_apart(out, alloc, name, out_first, late)
 }
 
 fn duplicates(out: &mut String, alloc: Global) -> Result<(), AllocError> {
@@ -244,7 +184,6 @@ fn duplicates(out: &mut String, alloc: Global) -> Result<(), AllocError> {
 pub fn show_all(out: &mut String, alloc: Global) -> Result<(), AllocError> {
     counts(out, alloc)?;
     identities(out, alloc)?;
-    uncovered(out, alloc)?;
     boundaries(out, alloc)?;
     duplicates(out, alloc)
 }

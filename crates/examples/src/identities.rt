@@ -1,41 +1,23 @@
 // Examples from outside for the text of an identity, a line for each: bytes or places, and the library's answer.
+use crate::words;
 use identity::IdentityPlace;
 use std::alloc::{AllocError, Global};
 
-// The bytes in hexadecimal, or `-` where there are none.
-fn write_hex(out: &mut String, text: &[u8]) -> Result<(), AllocError> {
-    if text.is_empty() {
-        return write!(out, "-");
-    }
-    for b in text {
-        write!(out, "{b:02x}")?;
-    }
-    Ok(())
-}
-
 // A text, whether it is UTF-8, and whether it is a valid identity.
 fn show_text(out: &mut String, text: &[u8]) -> Result<(), AllocError> {
-    write_hex(out, text)?;
+    words::hex(out, text)?;
     let utf8 = if identity::scan::is_utf8(text) {
-        "utf-8"
+        " utf-8"
     } else {
-        "malformed"
+        " malformed"
     };
+    out.push_str(utf8)?;
     let valid = if identity::scan::valid_id(text) {
-        "valid"
+        " valid\n"
     } else {
-        "invalid"
+        " invalid\n"
     };
-    writeln!(out, " {utf8} {valid}")
-}
-
-// Texts with bars between them.
-fn show_texts(out: &mut String, heading: &str, texts: &[u8]) -> Result<(), AllocError> {
-    writeln!(out, "{heading}")?;
-    for text in texts.split(|b| *b == b'|') {
-        show_text(out, text)?;
-    }
-    Ok(())
+    out.push_str(valid)
 }
 
 // A character after a letter, before one, and between two.
@@ -50,16 +32,26 @@ fn show_character(out: &mut String, alloc: Global, character: &[u8]) -> Result<(
     show_text(out, &text)
 }
 
-// Characters with bars between them.
-fn show_characters(
+#[derive(Clone, Copy)]
+enum Shown {
+    Text,
+    Character,
+}
+
+// A heading, and texts or characters with bars between them.
+fn show_list(
     out: &mut String,
     alloc: Global,
+    shown: Shown,
     heading: &str,
-    characters: &[u8],
+    texts: &[u8],
 ) -> Result<(), AllocError> {
-    writeln!(out, "{heading}")?;
-    for character in characters.split(|b| *b == b'|') {
-        show_character(out, alloc, character)?;
+    words::answer(out, heading, &[])?;
+    for text in texts.split(|b| *b == b'|') {
+        match shown {
+            Shown::Text => show_text(out, text)?,
+            Shown::Character => show_character(out, alloc, text)?,
+        }
     }
     Ok(())
 }
@@ -90,13 +82,14 @@ const HOUSE: &[u8] = b"abc\xFFz";
 fn show_place(out: &mut String, name: &str) -> Result<(), AllocError> {
     let place = place(name);
     let inside = if identity::place::place_inside(BATCH, HOUSE, place) {
-        "inside"
+        " inside "
     } else {
-        "outside"
+        " outside "
     };
-    write!(out, "{name} {inside} ")?;
-    write_hex(out, identity::place::identity_text(BATCH, HOUSE, place))?;
-    writeln!(out)
+    out.push_str(name)?;
+    out.push_str(inside)?;
+    words::hex(out, identity::place::identity_text(BATCH, HOUSE, place))?;
+    out.push_str("\n")
 }
 
 // Two places and the order of their texts.
@@ -104,32 +97,45 @@ fn show_order(out: &mut String, names: &str) -> Result<(), AllocError> {
     let Some((left, right)) = names.split_once(' ') else {
         return Ok(());
     };
-    let order = identity::compare::compare_utf8(BATCH, HOUSE, place(left), place(right));
-    writeln!(out, "{names} {order}")
+    out.push_str(names)?;
+    match identity::compare::compare_utf8(BATCH, HOUSE, place(left), place(right)) {
+        0 => out.push_str(" 0\n"),
+        1 => out.push_str(" 1\n"),
+        -1 => out.push_str(" -1\n"),
+        _ => out.push_str(" ?\n"),
+    }
 }
 
-fn utf_8(out: &mut String) -> Result<(), AllocError> {
-    show_texts(
+fn utf_8(out: &mut String, alloc: Global) -> Result<(), AllocError> {
+    show_list(
         out,
+        alloc,
+        Shown::Text,
         "RFC 3629, section 7",
         b"\x41\xE2\x89\xA2\xCE\x91\x2E|\xED\x95\x9C\xEA\xB5\xAD\xEC\x96\xB4\
         |\xE6\x97\xA5\xE6\x9C\xAC\xE8\xAA\x9E|\xEF\xBB\xBF\xF0\xA3\x8E\xB4",
     )?;
-    show_texts(
+    show_list(
         out,
+        alloc,
+        Shown::Text,
         "first bytes",
         b"\x00|\x7E|\x7F|\x80|\xBF|\xC0\x80|\xC1\xBF|\xC2\x80|\xC2\xBF|\xDF\xBF\
         |\xE0\xA0\x80|\xEF\xBF\xBF|\xF0\x90\x80\x80|\xF4\x8F\xBF\xBF\
         |\xF5\x80\x80\x80|\xF7\xBF\xBF\xBF|\xF8\x88\x80\x80\x80|\xFE|\xFF",
     )?;
-    show_texts(
+    show_list(
         out,
+        alloc,
+        Shown::Text,
         "scalars in too many bytes, too high, surrogates and their neighbours",
         b"\xE0\x80\x80|\xE0\x9F\xBF|\xF0\x80\x80\x80|\xF0\x8F\xBF\xBF\
         |\xF4\x90\x80\x80|\xF4\xBF\xBF\xBF|\xED\x9F\xBF|\xED\xA0\x80|\xED\xBF\xBF|\xEE\x80\x80",
     )?;
-    show_texts(
+    show_list(
         out,
+        alloc,
+        Shown::Text,
         "following bytes out of range, missing and left over",
         b"\xC3\x7F|\xC3\xC0|\xE1\x7F\x80|\xE1\xC0\x80|\xE1\x80\x7F|\xE1\x80\xC0\
         |\xF1\x7F\x80\x80|\xF1\xC0\x80\x80|\xF1\x80\x7F\x80|\xF1\x80\xC0\x80\
@@ -138,14 +144,18 @@ fn utf_8(out: &mut String) -> Result<(), AllocError> {
     )
 }
 
-fn identities(out: &mut String) -> Result<(), AllocError> {
-    show_texts(
+fn identities(out: &mut String, alloc: Global) -> Result<(), AllocError> {
+    show_list(
         out,
+        alloc,
+        Shown::Text,
         "document 01, and the empty text",
         b" a|\xC2\xA0|a b|\xE2\x80\x8B|",
     )?;
-    show_texts(
+    show_list(
         out,
+        alloc,
+        Shown::Text,
         "around a block of 16",
         b"abcdefghijklmno|abcdefghijklmnop|abcdefghijklmnopq|abcdefghijklmnopqrstuvwxyz012345\
         |abcdefghijklmno\xFF|abcdefghijklmnop\xFF|abcdefgh jklmnopqrstuvw\xC3\xA9z\
@@ -154,39 +164,39 @@ fn identities(out: &mut String) -> Result<(), AllocError> {
 }
 
 fn characters(out: &mut String, alloc: Global) -> Result<(), AllocError> {
-    show_characters(
+    show_list(
         out,
         alloc,
+        Shown::Character,
         "White_Space: first, last and in the middle",
         b"\x09|\x0A|\x0B|\x0C|\x0D|\x20|\xC2\x85|\xC2\xA0|\xE1\x9A\x80\
         |\xE2\x80\x80|\xE2\x80\x81|\xE2\x80\x82|\xE2\x80\x83|\xE2\x80\x84|\xE2\x80\x85\
         |\xE2\x80\x86|\xE2\x80\x87|\xE2\x80\x88|\xE2\x80\x89|\xE2\x80\x8A\
         |\xE2\x80\xA8|\xE2\x80\xA9|\xE2\x80\xAF|\xE2\x81\x9F|\xE3\x80\x80",
     )?;
-    show_characters(
+    show_list(
         out,
         alloc,
+        Shown::Character,
         "next to White_Space, and no control",
         b"\x21|\xC2\xA1|\xE1\x99\xBF|\xE1\x9A\x81|\xE1\xBF\xBF|\xE2\x80\x8B|\xE2\x80\xA7\
         |\xE2\x80\xAA|\xE2\x80\xAE|\xE2\x80\xB0|\xE2\x81\x9E|\xE2\x81\xA0|\xE2\xBF\xBF|\xE3\x80\x81",
     )?;
-    show_characters(
+    show_list(
         out,
         alloc,
+        Shown::Character,
         "controls, and 7E: first, last and in the middle",
         b"\x00|\x08|\x0E|\x1F|\x7E|\x7F|\xC2\x80|\xC2\x84|\xC2\x86|\xC2\x9F",
     )
 }
 
 fn places(out: &mut String) -> Result<(), AllocError> {
-    writeln!(
-        out,
-        "places in the batch text abcabd and the house text abc FF z"
-    )?;
+    out.push_str("places in the batch text abcabd and the house text abc FF z\n")?;
     for name in "b06|b07|b23|b51|b52|b60|b61|b70|b**|h05|h31|h50|h06|h60|h0*".split('|') {
         show_place(out, name)?;
     }
-    writeln!(out, "orders")?;
+    out.push_str("orders\n")?;
     for names in "b03 b03|b03 b33|b33 b03|b03 h03|h03 b33|b02 b03|b03 b32|b00 b01|b01 b00\
         |b60 h00|b07 b01|b01 h51|b70 h42|h31 h41|h41 h31|b01 h32"
         .split('|')
@@ -197,8 +207,8 @@ fn places(out: &mut String) -> Result<(), AllocError> {
 }
 
 pub fn show_all(out: &mut String, alloc: Global) -> Result<(), AllocError> {
-    utf_8(out)?;
-    identities(out)?;
+    utf_8(out, alloc)?;
+    identities(out, alloc)?;
     characters(out, alloc)?;
     places(out)
 }

@@ -5,9 +5,9 @@ mod enclaves;
 mod federates;
 mod identities;
 mod packing_rules;
-mod refused;
 mod rows;
 mod stations;
+mod words;
 
 use std::alloc::{AllocError, Global};
 use std::io;

@@ -1,12 +1,12 @@
 // Packs by hand for each packing refusal, a line for each: what is set in it, and the library's answer.
-use crate::refused::write_refusal;
+use crate::words;
 use packing::rules::check_packing;
 use packing::starts::table_starts;
 use packing::{PackAnswer, PackKind};
 use std::alloc::{AllocError, Global};
 
 // How many bytes a record of each table uses.
-const USED: [usize; 25] = [
+const USED: [u8; 25] = [
     44, 48, 44, 32, 20, 56, 12, 64, 12, 8, 8, 8, 8, 8, 8, 16, 12, 16, 16, 16, 16, 16, 8, 24, 12,
 ];
 
@@ -20,25 +20,37 @@ const BATCH: &[u8] = b"ab\xC3\xA9";
 // `h`, and a byte that no UTF-8 has.
 const HOUSE: &[u8] = b"h\xFF";
 
-fn write_packed(out: &mut String, answer: PackAnswer<'_>) -> Result<(), AllocError> {
-    match answer {
-        PackAnswer::Pack(_) => writeln!(out, " packed"),
+// The answer for a pack over two texts.
+fn write_answer(
+    out: &mut String,
+    kind: PackKind,
+    pack: &[u8],
+    batch: &[u8],
+    house: &[u8],
+) -> Result<(), AllocError> {
+    match check_packing(kind, pack, batch, house) {
+        PackAnswer::Pack(_) => out.push_str(" packed\n"),
         PackAnswer::Refused(refusal) => {
-            write!(out, " ")?;
-            write_refusal(out, refusal)
+            out.push_str(" ")?;
+            words::refused(out, refusal)
         }
     }
 }
 
-// The answer for a pack over the two texts.
-fn write_answer(out: &mut String, kind: PackKind, pack: &[u8]) -> Result<(), AllocError> {
-    write_packed(out, check_packing(kind, pack, BATCH, HOUSE))
+// The number of a digit in hexadecimal.
+fn hex(digit: u8) -> u8 {
+    match digit {
+        b'0'..=b'9' => digit - b'0',
+        b'A'..=b'F' => digit - b'A' + 10,
+        _ => 0,
+    }
 }
 
 // Four digits in hexadecimal: a byte's place in its record, and its value.
-fn set_byte(record: &mut [u8; 64], item: &str) {
-    if let Ok(item) = u64::from_str_radix(item, 16) {
-        record[(item / 256 % 64) as usize] = (item % 256) as u8;
+fn set_byte(record: &mut [u8; 64], item: &[u8]) {
+    if let [a, b, c, d] = item {
+        let at = hex(*a) << 4 | hex(*b);
+        record[(at % 64) as usize] = hex(*c) << 4 | hex(*d);
     }
 }
 
@@ -48,7 +60,7 @@ fn build(alloc: Global, text: &str) -> Result<Vec<u8>, AllocError> {
     for items in text.split('/') {
         let mut record = [0u8; 64];
         for item in items.split(' ') {
-            set_byte(&mut record, item);
+            set_byte(&mut record, item.as_bytes());
         }
         pack.extend_from_slice(&record)?;
     }
@@ -63,17 +75,17 @@ fn show_packs(
     heading: &str,
     packs: &str,
 ) -> Result<(), AllocError> {
-    writeln!(out, "{heading}")?;
+    words::answer(out, heading, &[])?;
     for text in packs.split('|') {
         let pack = build(alloc, text)?;
-        write!(out, "{text}")?;
-        write_answer(out, kind, &pack)?;
+        out.push_str(text)?;
+        write_answer(out, kind, &pack, BATCH, HOUSE)?;
     }
     Ok(())
 }
 
 // A record of a table with one byte set: alone where it is the first of its pack, else after an enclave's.
-fn show_byte(out: &mut String, table: usize, at: usize, value: u8) -> Result<(), AllocError> {
+fn show_byte(out: &mut String, table: u8, at: u8, value: u8) -> Result<(), AllocError> {
     let kind = if table == 0 {
         PackKind::Federate
     } else {
@@ -82,17 +94,19 @@ fn show_byte(out: &mut String, table: usize, at: usize, value: u8) -> Result<(),
     let start = if table < 2 { 0 } else { 64 };
     let mut pack = [0u8; 128];
     pack[0] = 1;
-    let record = &mut pack[start..start + 64];
-    record[0] = (table % 256) as u8;
-    if let Some(byte) = record.get_mut(at) {
-        *byte = value;
-    }
-    write!(out, "table {table} byte {at} is {value}")?;
-    write_answer(out, kind, &pack[..start + 64])
+    pack[start] = table;
+    pack[start + (at % 64) as usize] = value;
+    out.push_str("table")?;
+    words::number(out, table as u64)?;
+    out.push_str(" byte")?;
+    words::number(out, at as u64)?;
+    out.push_str(" is")?;
+    words::number(out, value as u64)?;
+    write_answer(out, kind, &pack[..start + 64], BATCH, HOUSE)
 }
 
 // Each bit of bytes 1 to 3, the last used byte, the first unused one and the last one.
-fn show_table(out: &mut String, table: usize, used: usize) -> Result<(), AllocError> {
+fn show_table(out: &mut String, table: u8, used: u8) -> Result<(), AllocError> {
     for at in 1..4 {
         for bit in [1, 2, 4, 8, 16, 32, 64, 128] {
             show_byte(out, table, at, bit)?;
@@ -106,9 +120,9 @@ fn show_table(out: &mut String, table: usize, used: usize) -> Result<(), AllocEr
 }
 
 fn tables(out: &mut String) -> Result<(), AllocError> {
-    writeln!(out, "one byte of a record")?;
-    for (table, used) in USED.iter().enumerate() {
-        show_table(out, table, *used)?;
+    out.push_str("one byte of a record\n")?;
+    for table in 0..25 {
+        show_table(out, table, USED[table as usize])?;
     }
     Ok(())
 }
@@ -192,38 +206,32 @@ fn identities(out: &mut String, alloc: Global) -> Result<(), AllocError> {
     )
 }
 
-// An enclave whose identity has 65,536 bytes, over so many bytes of a text.
-fn show_texts(out: &mut String, text: &[u8], batch: usize, house: usize) -> Result<(), AllocError> {
-    let (Some(batch_text), Some(house_text)) = (text.get(..batch), text.get(..house)) else {
-        return Ok(());
-    };
+// An enclave whose identity has 65,536 bytes.
+fn show_texts(out: &mut String, batch: &[u8], house: &[u8]) -> Result<(), AllocError> {
     let mut pack = [0u8; 64];
     pack[0] = 1;
     pack[9] = 1;
-    write!(out, "{batch} {house}")?;
-    write_packed(
-        out,
-        check_packing(PackKind::Enclave, &pack, batch_text, house_text),
-    )
+    words::first_number(out, batch.len() as u64)?;
+    words::number(out, house.len() as u64)?;
+    write_answer(out, PackKind::Enclave, &pack, batch, house)
 }
 
 fn texts(out: &mut String, alloc: Global) -> Result<(), AllocError> {
-    writeln!(
-        out,
-        "lengths of the texts, the batch text first; the identity has 65,536 bytes"
-    )?;
-    let text = vec![in alloc; 0u8; LONGEST_TEXT + 1]?;
-    show_texts(out, &text, 0, 0)?;
-    show_texts(out, &text, LONGEST_TEXT - 1, 0)?;
-    show_texts(out, &text, LONGEST_TEXT, LONGEST_TEXT)?;
-    show_texts(out, &text, LONGEST_TEXT + 1, LONGEST_TEXT)?;
-    show_texts(out, &text, LONGEST_TEXT, LONGEST_TEXT + 1)?;
-    show_texts(out, &text, LONGEST_TEXT + 1, LONGEST_TEXT + 1)
+    out.push_str("lengths of the texts, the batch text first; the identity has 65,536 bytes\n")?;
+    let long = vec![in alloc; 0u8; LONGEST_TEXT + 1]?;
+    let most = vec![in alloc; 0u8; LONGEST_TEXT]?;
+    let fewer = vec![in alloc; 0u8; LONGEST_TEXT - 1]?;
+    show_texts(out, b"", b"")?;
+    show_texts(out, &fewer, b"")?;
+    show_texts(out, &most, &most)?;
+    show_texts(out, &long, &most)?;
+    show_texts(out, &most, &long)?;
+    show_texts(out, &long, &long)
 }
 
 // An enclave and rows of table 9: up to one record more than a pack may have.
 fn lengths(out: &mut String, alloc: Global) -> Result<(), AllocError> {
-    writeln!(out, "lengths of the pack")?;
+    out.push_str("lengths of the pack\n")?;
     let mut pack = vec![in alloc; 0u8; LONGEST_PACK + 64]?;
     for record in pack.chunks_exact_mut(64) {
         record[0] = 9;
@@ -241,8 +249,8 @@ fn lengths(out: &mut String, alloc: Global) -> Result<(), AllocError> {
         LONGEST_PACK + 64,
     ] {
         if let Some(part) = pack.get(..len) {
-            write!(out, "{len}")?;
-            write_answer(out, PackKind::Enclave, part)?;
+            words::first_number(out, len as u64)?;
+            write_answer(out, PackKind::Enclave, part, BATCH, HOUSE)?;
         }
     }
     Ok(())
@@ -251,17 +259,19 @@ fn lengths(out: &mut String, alloc: Global) -> Result<(), AllocError> {
 // Where each table begins in an enclave's pack.
 fn show_starts(out: &mut String, alloc: Global, text: &str) -> Result<(), AllocError> {
     let bytes = build(alloc, text)?;
-    write!(out, "{text}:")?;
+    out.push_str(text)?;
+    out.push_str(":")?;
     if let PackAnswer::Pack(pack) = check_packing(PackKind::Enclave, &bytes, BATCH, HOUSE) {
-        for start in table_starts(pack) {
-            write!(out, " {start}")?;
+        let starts = table_starts(pack);
+        for start in &starts {
+            words::number(out, *start as u64)?;
         }
     }
-    writeln!(out)
+    out.push_str("\n")
 }
 
 fn starts(out: &mut String, alloc: Global) -> Result<(), AllocError> {
-    writeln!(out, "where the tables begin")?;
+    out.push_str("where the tables begin\n")?;
     for text in "0001|0001/0002/0007/0007/0018|0001/0003/0003/0018/0018|0001/0002/0003/0004/0005/0006\
         /0007/0008/0009/000A/000B/000C/000D/000E/000F/0010/0011/0012/0013/0014/0015/0016/0017/0018"
         .split('|')

@@ -1,6 +1,5 @@
 // The stations that the cases have, record by record, and a line for each case with the answer of the check for its pack.
-use crate::refused::write_refusal;
-use crate::rows;
+use crate::{rows, words};
 use cases::records;
 use cases::records::Record;
 use enclave::EnclaveAnswer;
@@ -9,7 +8,7 @@ use federate::FederateAnswer;
 use federate::check::check_federate;
 use schema::index::BindingKind;
 use schema::lists::ReactionTrigger;
-use schema::rows::{EnclaveImage, ReactorImage, RouteImage, ScopeImage};
+use schema::rows::{EnclaveImage, FederateImage, ReactorImage, RouteImage, ScopeImage};
 use std::alloc::{AllocError, Global};
 
 // S with another enclave, reactor or scope.
@@ -72,7 +71,7 @@ pub fn two_halves(enclave: EnclaveImage, first: RouteImage, second: RouteImage) 
 }
 
 // Adds records to a pack.
-pub fn add(pack: &mut Vec<u8>, records: &[Record]) -> Result<(), AllocError> {
+fn add(pack: &mut Vec<u8>, records: &[Record]) -> Result<(), AllocError> {
     for record in records {
         pack.extend_from_slice(record)?;
     }
@@ -92,10 +91,11 @@ pub fn show_enclave_bytes(
     pack: &[u8],
     batch: &[u8],
 ) -> Result<(), AllocError> {
-    write!(out, "{name}: ")?;
+    out.push_str(name)?;
+    out.push_str(": ")?;
     match check_enclave(pack, batch, b"") {
-        EnclaveAnswer::Accepted { links } => writeln!(out, "accepted {links}"),
-        EnclaveAnswer::Refused(refusal) => write_refusal(out, refusal),
+        EnclaveAnswer::Accepted { links } => words::answer(out, "accepted", &[links]),
+        EnclaveAnswer::Refused(refusal) => words::refused(out, refusal),
     }
 }
 
@@ -111,18 +111,25 @@ pub fn show_enclave(
     show_enclave_bytes(out, name, &pack, batch)
 }
 
-// The answer for the bytes of a line.
+// The answer for a line: its own record, and the records of each station.
 pub fn show_federate(
     out: &mut String,
+    alloc: Global,
     name: &str,
-    pack: &[u8],
+    federate: FederateImage,
+    stations: &[&[Record]],
     batch: &[u8],
 ) -> Result<(), AllocError> {
-    write!(out, "{name}: ")?;
-    match check_federate(pack, batch, b"") {
+    let mut pack = pack_of(alloc, &[records::federate(federate)])?;
+    for station in stations {
+        add(&mut pack, station)?;
+    }
+    out.push_str(name)?;
+    out.push_str(": ")?;
+    match check_federate(&pack, batch, b"") {
         FederateAnswer::Accepted { enclaves, links } => {
-            writeln!(out, "accepted {enclaves} {links}")
+            words::answer(out, "accepted", &[enclaves as u64, links])
         }
-        FederateAnswer::Refused(refusal) => write_refusal(out, refusal),
+        FederateAnswer::Refused(refusal) => words::refused(out, refusal),
     }
 }
