@@ -20,22 +20,41 @@ fn show_text(out: &mut String, text: &[u8]) -> Result<(), AllocError> {
     out.push_str(valid)
 }
 
-// A character after a letter, before one, and between two.
-fn show_character(out: &mut String, alloc: Global, character: &[u8]) -> Result<(), AllocError> {
+// The text of three parts, one after the other.
+fn show_joined(
+    out: &mut String,
+    alloc: Global,
+    before: &[u8],
+    character: &[u8],
+    behind: &[u8],
+) -> Result<(), AllocError> {
     let mut text = Vec::new(alloc);
+    text.extend_from_slice(before)?;
     text.extend_from_slice(character)?;
-    text.push(b'a')?;
-    show_text(out, &text)?;
-    text.insert(0, b'a')?;
-    let whole = text.len();
-    show_text(out, &text[..whole - 1])?;
+    text.extend_from_slice(behind)?;
     show_text(out, &text)
 }
+
+// A character before letters, after them, and between them.
+fn show_character(
+    out: &mut String,
+    alloc: Global,
+    character: &[u8],
+    letters: &[u8],
+) -> Result<(), AllocError> {
+    show_joined(out, alloc, b"", character, letters)?;
+    show_joined(out, alloc, letters, character, b"")?;
+    show_joined(out, alloc, letters, character, letters)
+}
+
+// Letters of more than a block of 16 bytes, one of them not ASCII.
+const LETTERS: &[u8] = b"abcdefg\xC3\xA9jklmnopqrstu";
 
 #[derive(Clone, Copy)]
 enum Shown {
     Text,
     Character,
+    InBlocks,
 }
 
 // A heading, and texts or characters with bars between them.
@@ -50,7 +69,8 @@ fn show_list(
     for text in texts.split(|b| *b == b'|') {
         match shown {
             Shown::Text => show_text(out, text)?,
-            Shown::Character => show_character(out, alloc, text)?,
+            Shown::Character => show_character(out, alloc, text, b"a")?,
+            Shown::InBlocks => show_character(out, alloc, text, LETTERS)?,
         }
     }
     Ok(())
@@ -130,7 +150,8 @@ fn utf_8(out: &mut String, alloc: Global) -> Result<(), AllocError> {
         Shown::Text,
         "scalars in too many bytes, too high, surrogates and their neighbours",
         b"\xE0\x80\x80|\xE0\x9F\xBF|\xF0\x80\x80\x80|\xF0\x8F\xBF\xBF\
-        |\xF4\x90\x80\x80|\xF4\xBF\xBF\xBF|\xED\x9F\xBF|\xED\xA0\x80|\xED\xBF\xBF|\xEE\x80\x80",
+        |\xF4\x90\x80\x80|\xF4\xBF\xBF\xBF|\xED\x9F\xBF|\xED\xA0\x80|\xED\xAF\xBF\
+        |\xED\xB0\x80|\xED\xBF\xBF|\xEE\x80\x80",
     )?;
     show_list(
         out,
@@ -161,6 +182,16 @@ fn identities(out: &mut String, alloc: Global) -> Result<(), AllocError> {
         |abcdefghijklmno\xFF|abcdefghijklmnop\xFF|abcdefgh jklmnopqrstuvw\xC3\xA9z\
         |abcdefghijklmnop |abcdefghijklmnopqrst\x7Fv",
     )
+}
+
+const SURROGATES: &[u8] =
+    b"\xED\x9F\xBF|\xED\xA0\x80|\xED\xAF\xBF|\xED\xB0\x80|\xED\xBF\xBF|\xEE\x80\x80";
+
+fn surrogates(out: &mut String, alloc: Global) -> Result<(), AllocError> {
+    let heading = "surrogates and their neighbours: first, last and in the middle";
+    show_list(out, alloc, Shown::Character, heading, SURROGATES)?;
+    let heading = "surrogates and their neighbours in blocks: first, last and in the middle";
+    show_list(out, alloc, Shown::InBlocks, heading, SURROGATES)
 }
 
 fn characters(out: &mut String, alloc: Global) -> Result<(), AllocError> {
@@ -208,6 +239,7 @@ fn places(out: &mut String) -> Result<(), AllocError> {
 
 pub fn show_all(out: &mut String, alloc: Global) -> Result<(), AllocError> {
     utf_8(out, alloc)?;
+    surrogates(out, alloc)?;
     identities(out, alloc)?;
     characters(out, alloc)?;
     places(out)
