@@ -1,5 +1,5 @@
 -- The enclaves one after the other: the answer of one, and what the loop from enclave to enclave knows. Assumes nothing.
-use Rattle.std.proofs.Common.{ℕ, zero, suc, ◌+◌, ◌-◌, ◌*◌, ◌^◌, ◌<◌, ◌≤◌, Bool, true, false, cond, ◌≡◌, refl, ◌∙◌, ap, sym, List, [], ◌++◌, add-one, arith, get_or}
+use Rattle.std.proofs.Common.{ℕ, zero, suc, ◌+◌, ◌-◌, ◌*◌, ◌^◌, ◌<◌, ◌≤◌, Bool, true, false, cond, ◌≡◌, refl, ◌∙◌, ap, sym, List, add-one, arith, get_or}
 use Rattle.std.proofs.Math.Nat.{mul-le-mul}
 use Rattle.identity.proofs.Tests.{cases}
 use Rattle.answers.specs.declared.Refusal.{Refusal}
@@ -14,13 +14,13 @@ use Rattle.packing.proofs.TableStarts.{starts-at}
 use Rattle.checks.specs.Image.{Image}
 use Rattle.scope_checks.specs.Links.{links, parents}
 use Rattle.scope_checks.proofs.LinksLaws.{below-within}
-use Rattle.enclave.specs.declared.EnclaveAnswer.{EnclaveAnswer}
 use Rattle.enclave.specs.declared.EnclaveAnswer.TheVariants as answer
 use Rattle.enclave.specs.Passes.{enclave_checks}
 use Rattle.enclave.specs.Answer.{answer_of, outcome_answer, image_result}
-use Rattle.federate.specs.Records.{enclaves_before, enclave_before, enclave_from, enclave_end, enclave_pack}
+use Rattle.federate.specs.Records.{enclaves_before, enclave_before, enclave_from, enclave_pack}
 use Rattle.federate.specs.Enclaves.{image_at, order_checks, record_checks, links_before}
-use Rattle.federate.proofs.Ends.{count_next, from_next, from_found, from_over, from-within, end-within, part-length}
+use Rattle.schema.proofs.Counts.{count_next}
+use Rattle.federate.proofs.Ends.{from_next, from_found, from_over, end-within, part-length}
 
 -- what an answer tells of the checks and the count it comes from
 pub accepted-so : (o : Outcome) (n k : ℕ) → answer.Accepted k ≡ answer_of o n → (o ≡ Passed) × (k ≡ n)

@@ -1,19 +1,8 @@
--- Where the enclave of a record ends, its pack, and how many there are. Assumes nothing.
-use Rattle.std.proofs.Common.{ℕ, zero, suc, ◌+◌, ◌-◌, ◌*◌, ◌/◌, ◌%◌, ◌<◌, ◌≤◌, Bool, true, false, cond, ◌≡◌, refl, ◌∙◌, ap, sym, List, length, take, drop, length-drop, add-one, arith}
+-- Where the enclave of a record ends, and its pack. Assumes nothing.
+use Rattle.std.proofs.Common.{ℕ, zero, suc, ◌+◌, ◌-◌, ◌*◌, ◌%◌, ◌<◌, ◌≤◌, Bool, true, false, cond, ◌≡◌, refl, ap, List, length, take, drop, length-drop, add-one, arith}
 use Rattle.std.proofs.Math.Seq.{length-take-le}
-use Rattle.schema.specs.Records.{records_of, is_of, count_below}
-use Rattle.federate.specs.Records.{enclaves_of, enclave_from, enclave_end, enclave_pack}
-
--- counting
-pub count_none : (f : ℕ → Bool) → count_below f 0 ≡ 0
-unfolding count_below
-count_none f = refl
-
-pub count_next : (f : ℕ → Bool) (n : ℕ) → count_below f (n + 1) ≡ count_below f n + cond (f n) 1 0
-unfolding count_below
-count_next f n = rw add-one refl
-
-pub ruleset count_laws = (count_none, count_next)
+use Rattle.schema.specs.Records.{records_of, is_of}
+use Rattle.federate.specs.Records.{enclave_from, enclave_end, enclave_pack}
 
 -- looking for the next enclave's record
 module _ (p : List ℕ) (n : ℕ) where

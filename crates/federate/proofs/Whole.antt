@@ -1,5 +1,5 @@
 -- The answer at each place where the federate check can stop. Assumes nothing.
-use Rattle.std.proofs.Common.{ℕ, ◌≡◌, refl, ◌∙◌, sym, ap, List, [], ◌∷◌, ◌++◌, append_assoc}
+use Rattle.std.proofs.Common.{ℕ, ◌≡◌, refl, ◌∙◌, sym, List, [], ◌∷◌, ◌++◌, append_assoc}
 use Rattle.identity.specs.Text.{identity_text}
 use Rattle.answers.specs.declared.Refusal.{Refusal}
 use Rattle.answers.specs.declared.Outcome.{Outcome}
@@ -13,7 +13,7 @@ use Rattle.schema.specs.Records.{records_of}
 use Rattle.packing.specs.declared.PackKind.TheVariants.{Federate}
 use Rattle.packing.specs.Packing.{packing_checks}
 use Rattle.enclave.specs.declared.EnclaveAnswer.TheVariants as answer
-use Rattle.enclave.specs.Answer.{answer_of, unless}
+use Rattle.enclave.specs.Answer.{answer_of}
 use Rattle.federate.specs.Records.{enclaves_of}
 use Rattle.federate.specs.Enclaves.{record_checks}
 use Rattle.route_pairs.specs.RoutePairs.{route_record_checks}

@@ -2,9 +2,9 @@
 #![tactic(auto)]
 
 pub mod check;
-mod enclaves;
-mod metadata;
-mod records;
+pub mod enclaves;
+pub mod metadata;
+pub mod records;
 
 use answers::Refusal;
 

@@ -6,17 +6,10 @@ ghost use Rattle.federate.specs.Records.{enclaves_of, enclave_from, enclave_end,
 use schema::lent::Pack;
 use schema::rows::EnclaveImage;
 
-#[tactic(auto, using(crate::proofs::Ends::count_laws))]
 pub fn count_enclaves(pack: Pack) -> u32
     ensures { result ≡ enclaves_of pack.entry.bytes.now }
 {
-    let mut found = 0;
-    for n in 0..pack.records() {
-        if pack.is_of(EnclaveImage::TABLE, n) {
-            found += 1;
-        }
-    }
-    found
+    pack.count_of(EnclaveImage::TABLE) as u32
 }
 
 // The first enclave's record from n on, or the end of the pack.

@@ -1,18 +1,11 @@
 -- Counts of the numbers below n that pass a test. Assumes nothing.
-use Rattle.std.proofs.Common.{ℕ, zero, suc, ◌+◌, ◌<◌, ◌≤◌, Bool, true, false, cond, ◌≡◌, refl, add-one, arith}
+use Rattle.std.proofs.Common.{ℕ, zero, suc, ◌+◌, ◌<◌, ◌≤◌, Bool, true, false, ◌≡◌, refl, arith}
 use Rattle.schema.specs.Records.{count_below}
+use Rattle.schema.proofs.Counts.{count_next}
 use Rattle.identity.proofs.Tests.{cases}
 use Rattle.route_pairs.proofs.Tests.{same_or}
 
 module _ (f : ℕ → Bool) where
-  pub below_none : count_below f 0 ≡ 0
-  unfolding count_below
-  below_none = refl
-
-  pub below_next : (n : ℕ) → count_below f (n + 1) ≡ count_below f n + cond (f n) 1 0
-  unfolding count_below
-  below_next n = rw add-one
-
   below_up : (k n : ℕ) → k ≤ n → count_below f k ≤ count_below f n
   unfolding count_below
   below_up k zero h = let e : k ≡ 0 = omega arith in rw e (omega arith)
@@ -25,7 +18,7 @@ module _ (f : ℕ → Bool) where
 
   pub below_some : (n k : ℕ) → k < n → f k ≡ true → 1 ≤ count_below f n
   below_some n k h e =
-      let a = rw e at (below_next k) in
+      let a = rw e at (count_next f k) in
       let c = below_up (k + 1) n (omega arith) in
       omega arith
 
@@ -42,8 +35,6 @@ module _ (f : ℕ → Bool) where
   pub below_two : (n i j : ℕ) → i < j → j < n → f i ≡ true → f j ≡ true → 2 ≤ count_below f n
   below_two n i j h g a b =
       let s = below_some j i h a in
-      let m = rw b at (below_next j) in
+      let m = rw b at (count_next f j) in
       let u = below_up (j + 1) n (omega arith) in
       omega arith
-
-pub ruleset count_laws = (below_none, below_next)

@@ -2,20 +2,21 @@
 use Rattle.std.proofs.Common.{ℕ, zero, suc, ◌+◌, ◌-◌, ◌<◌, ◌≤◌, ◌≡◌, true, leb, List, [], ◌∷◌, length, get_or, refl, sym, ap, ◌∙◌, add-one, arith, IsPermutation}
 use Rattle.std.specs.List.Sorted.{IsSorted}
 use Rattle.std.proofs.lemmas.List.Sorted.{IsPermutation-refl}
-use borrow.Author.Tests.{leb-true, leb-false, lt-ltb, le-ltb}
+use borrow.Author.Tests.{leb-true, leb-false}
 use Rattle.identity.specs.declared.IdentityPlace.{IdentityPlace}
 use Rattle.identity.specs.declared.ByteOrder.TheVariants.{Equal}
 use Rattle.identity.specs.Order.{compared}
 use Rattle.identity.proofs.Order.{compared_same}
+use Rattle.answers.specs.declared.Outcome.{Outcome}
 use Rattle.answers.specs.declared.Outcome.TheVariants.{Passed}
-use Rattle.answers.specs.Checks.{Check, first}
+use Rattle.answers.specs.Checks.{Check, first, run}
 use Rattle.answers.proofs.Laws.{first_past, first_stays}
 use Rattle.answers.proofs.Loops.{Remaining, run_next, run_over}
 use Rattle.schema.specs.Rows.{route_at}
 use Rattle.schema.specs.Records.{records_of, is_of}
 use Rattle.checks.specs.Identities.{is_equal}
 use Rattle.route_pairs.specs.RoutePairs.{route_record_checks}
-use Rattle.route_pairs.specs.RouteOrder.{boundary_at, routes_of, row_order, are_halves, parted, fits, Scanned, DecidesAt}
+use Rattle.route_pairs.specs.RouteOrder.{boundary_at, routes_of, row_order, are_halves, parted, fits, Scanned, FirstFault}
 use Rattle.identity.proofs.Tests.{cases, below_or_not, both}
 use Rattle.route_pairs.proofs.Tests.{same_or, or_true}
 use Rattle.route_pairs.proofs.Order.{by_numbers, between}
@@ -141,26 +142,28 @@ module _ (text : IdentityPlace → List ℕ) (p rows : List ℕ) (permuted : IsP
     stops h good = s.named h (λ j g e. passed_fits j g (rw e good))
 
 -- the first list of checks that does not pass decides
-module _ (f : ℕ → List Check) (i n : ℕ) (few : i ≤ n) (passes : (k : ℕ) → k < i → first (f k) ≡ Passed) (stops : i < n → first (f i) ≡ Passed → ⊥) where
+module _ (f : ℕ → List Check) (i n : ℕ) (fault : FirstFault f i n) where
   up_to : (k : ℕ) → k ≤ i → Remaining f k n
   up_to zero h = let e : n - 0 ≡ n = omega arith in rw e refl
-  up_to (suc k) h = up_to k (omega arith) ∙ rw (run_next f k n (omega arith), add-one) (first_past (f k) _ (passes k (omega arith)))
+  up_to (suc k) h =
+      let w = fault.within in
+      up_to k (omega arith) ∙ rw (run_next f k n (omega arith), add-one) (first_past (f k) _ (fault.passes k (omega arith)))
 
-  decides : DecidesAt f n i
-  decides =
-      below_or_not i n
-      (λ l. up_to i (omega arith) ∙ rw (run_next f i n l, lt-ltb i n l) (first_stays (f i) _ (stops l)))
-      (λ g. up_to i (omega arith) ∙ rw (run_over f i n g, le-ltb i n g))
+  pub fault_first : (o : Outcome) → i < n → o ≡ first (f i) → o ≡ first (run f 0 n)
+  fault_first o h e = e ∙ sym (up_to i (omega arith) ∙ rw (run_next f i n h) (first_stays (f i) _ (fault.stops h)))
+
+  pub fault_none : (o : Outcome) → n ≤ i → o ≡ Passed → o ≡ first (run f 0 n)
+  fault_none o h e = e ∙ sym (up_to i (omega arith) ∙ rw (run_over f i n h) refl)
 
 pub fault_decides : (text : IdentityPlace → List ℕ) (p rows list : List ℕ) (least : ℕ) → list ≡ routes_of p → IsPermutation list rows → IsSorted (row_order (boundary_at text p)) rows → Scanned text p rows (length rows) least
-    → DecidesAt (route_record_checks text p) (records_of p) least
+    → FirstFault (route_record_checks text p) least (records_of p)
 fault_decides text p rows list least e permuted up s =
     let moved = rw e at permuted in
-    decides (route_record_checks text p) least (records_of p) s.within (passes text p rows moved up least s) (stops text p rows moved up least s)
+    record { within = s.within; passes = passes text p rows moved up least s; stops = stops text p rows moved up least s }
 
 -- of a pack without routes there is none
-pub no_routes : (text : IdentityPlace → List ℕ) (p : List ℕ) → length (routes_of p) ≡ 0 → DecidesAt (route_record_checks text p) (records_of p) (records_of p)
-no_routes text p z = fault_decides text p [] [] (records_of p) (sym (empty (routes_of p) z)) (IsPermutation-refl []) (λ k d l h. absurd (omega arith)) (scan_start text p [])
+pub no_routes : (text : IdentityPlace → List ℕ) (p : List ℕ) (n : ℕ) → length (routes_of p) ≡ 0 → n ≡ records_of p → FirstFault (route_record_checks text p) n (records_of p)
+no_routes text p n z e = rw e (fault_decides text p [] [] (records_of p) (sym (empty (routes_of p) z)) (IsPermutation-refl []) (λ k d l h. absurd (omega arith)) (scan_start text p []))
   where
     empty : (xs : List ℕ) → length xs ≡ 0 → xs ≡ []
     empty [] h = refl

@@ -34,6 +34,16 @@ module _ (p : List ℕ) where
       let e : n + suc d ≡ (n + d) + 1 = omega arith in
       rw (e, count_next (n + d)) (omega arith)
 
+  below_counted : (n : ℕ) → count_below (is_of p 23) n ≡ length (routes_below p n)
+  unfolding count_below
+  below_counted zero = sym count_none
+  below_counted (suc n) =
+      let e = count_next n in
+      rw (below_counted n) (sym (rw add-one at e))
+
+  pub routes_counted : count_below (is_of p 23) (records_of p) ≡ length (routes_of p)
+  routes_counted = below_counted (records_of p)
+
   pub count_few : (n : ℕ) → length (routes_below p n) ≤ n
   count_few zero = rw count_none (omega arith)
   count_few (suc n) =

@@ -1,5 +1,5 @@
 -- Rows of routes in the order of their boundaries. Only the inner functions of the sort and of the scan say what they do by these. Assumes nothing.
-use Rattle.std.specs.Prelude.{ℕ, zero, suc, ◌+◌, ◌<◌, ◌≤◌, Bool, true, not, ◌&&◌, ◌||◌, cond, ◌≡◌, List, [], ◌∷◌, ◌++◌, eqb, leb, ltb, length, slice_index}
+use Rattle.std.specs.Prelude.{ℕ, zero, suc, ◌+◌, ◌<◌, ◌≤◌, Bool, true, not, ◌&&◌, ◌||◌, cond, ◌≡◌, List, [], ◌∷◌, ◌++◌, eqb, leb, length, slice_index}
 use Rattle.std.specs.Ordering.{nat_cmp}
 use Rattle.std.specs.declared.cmp.Ordering.{Ordering}
 use Rattle.std.specs.declared.cmp.Ordering.TheVariants as order
@@ -9,7 +9,7 @@ use Rattle.identity.specs.declared.ByteOrder.TheVariants.{Less, Equal, Greater}
 use Rattle.identity.specs.Text.{identity_text}
 use Rattle.identity.specs.Order.{compared}
 use Rattle.answers.specs.declared.Outcome.TheVariants.{Passed}
-use Rattle.answers.specs.Checks.{Check, first, run}
+use Rattle.answers.specs.Checks.{Check, first}
 use Rattle.schema.specs.declared.rows.RouteImage.{RouteImage}
 use Rattle.schema.specs.Rows.{route_at}
 use Rattle.schema.specs.Records.{records_of, is_of, direction_number}
@@ -66,9 +66,11 @@ module _ (text : IdentityPlace → List ℕ) (p rows : List ℕ) where
     pub named : least < records_of p → ((j : ℕ) → j < k → slice_index rows j ≡ least → fits j ≡ true) → ⊥
 
 -- of n lists of checks the i-th is the first that does not pass; all pass where i is n
-abbrev pub DecidesAt : (ℕ → List Check) → ℕ → ℕ → Type 0
-DecidesAt f n i = first (run f 0 n) ≡ cond (ltb i n) (first (f i)) Passed
+pub record FirstFault (f : ℕ → List Check) (i n : ℕ) : Type 0 where
+  pub within : i ≤ n
+  pub passes : (k : ℕ) → k < i → first (f k) ≡ Passed
+  pub stops : i < n → first (f i) ≡ Passed → ⊥
 
 -- record i is the first route at fault, or the number of records where none is
-abbrev pub FirstFault : Routes → ℕ → Type 0
-FirstFault r i = DecidesAt (route_record_checks (text_of r) r.pack.bytes.now) (records_of r.pack.bytes.now) i
+abbrev pub FirstRouteFault : Routes → ℕ → Type 0
+FirstRouteFault r i = FirstFault (route_record_checks (text_of r) r.pack.bytes.now) i (records_of r.pack.bytes.now)

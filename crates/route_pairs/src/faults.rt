@@ -1,6 +1,6 @@
 // The first route at fault: rows sorted by their boundaries, and one pass over neighbours.
 ghost use Rattle.std.specs.Prelude.{◌≡◌, ◌<◌, ◌≤◌, length, slice_index, IsPermutation, IsSorted};
-ghost use Rattle.route_pairs.specs.RouteOrder.{text_of, boundary_at, routes_of, row_order, are_halves, parted, fits, Scanned, FirstFault};
+ghost use Rattle.route_pairs.specs.RouteOrder.{text_of, boundary_at, routes_of, row_order, are_halves, parted, fits, Scanned, FirstRouteFault};
 
 use crate::{Half, Routes, is_half};
 use identity::ByteOrder;
@@ -25,17 +25,11 @@ fn are_halves(a: RouteImage, b: RouteImage) -> bool
 
 impl<'a> Routes<'a> {
     // How many routes the pack has.
-    #[tactic(auto, using(crate::proofs::Rows::rows_laws))]
+    #[tactic(auto, using(crate::proofs::Rows::routes_counted))]
     fn count(self) -> usize
         ensures { result ≡ length (routes_of self.entry.pack.bytes.now) }
     {
-        let mut found = 0;
-        for n in 0..self.pack.records() {
-            if self.pack.is_of(RouteImage::TABLE, n) {
-                found += 1;
-            }
-        }
-        found
+        self.pack.count_of(RouteImage::TABLE)
     }
 
     // The routes, in the order of the records.
@@ -55,7 +49,7 @@ impl<'a> Routes<'a> {
 
     // The order of records a and b: by their boundaries, then by their numbers.
     #[tactic(auto, unfolding(crate::specs::RouteOrder::row_order))]
-    fn order(self, a: u32, b: u32) -> Ordering
+    pub fn order(self, a: u32, b: u32) -> Ordering
         ensures { result ≡ row_order (boundary_at (text_of self.entry) self.entry.pack.bytes.now) a b }
     {
         let left = RouteImage::at(self.pack, a as usize).boundary;
@@ -67,7 +61,7 @@ impl<'a> Routes<'a> {
         }
     }
 
-    fn sort(self, rows: &mut [u32])
+    pub fn sort(self, rows: &mut [u32])
         ensures permutation { IsPermutation rows.old rows.new }
         ensures sorted { IsSorted (row_order (boundary_at (text_of self.entry) self.entry.pack.bytes.now)) rows.new }
     {
@@ -119,7 +113,7 @@ impl<'a> Routes<'a> {
     // The first record at fault, or the number of records; `rows` has a place for each route.
     fn first_fault_in(self, rows: &mut [u32]) -> usize
         requires { length rows.old ≡ length (routes_of self.pack.bytes.now) }
-        ensures { FirstFault self.entry result }
+        ensures { FirstRouteFault self.entry result }
     {
         self.list(rows);
         self.sort(rows);
@@ -132,16 +126,16 @@ impl<'a> Routes<'a> {
         requires all { routes ≡ length (routes_of self.pack.bytes.now) }
         requires room { routes ≤ ROOM }
         requires few { ROOM ≤ 65536 }
-        ensures { FirstFault self.entry result }
+        ensures { FirstRouteFault self.entry result }
     {
         let mut rows = [0u32; ROOM];
         self.first_fault_in(&mut rows[..routes])
     }
 
     // The first record at fault; the number of records where none is.
-    #[tactic(auto, using(crate::proofs::Rows::count_few, crate::proofs::FirstFault::no_routes))]
+    #[tactic(auto, using(crate::proofs::Rows::count_few))]
     pub fn first_fault(self) -> usize
-        ensures { FirstFault self.entry result }
+        ensures { FirstRouteFault self.entry result }
     {
         let routes = self.count();
         if routes == 0 {

@@ -10,7 +10,7 @@ ghost use Rattle.checks.specs.Identities.{is_equal};
 ghost use Rattle.route_pairs.specs.RoutePairs.{is_half, half_at, halves, pair_checks, route_record_checks};
 ghost use Rattle.route_pairs.specs.RouteOrder.{text_of};
 
-mod faults;
+pub mod faults;
 
 use answers::{Outcome, Refusal, field};
 use identity::ByteOrder;
@@ -20,7 +20,7 @@ use schema::rows::RouteImage;
 
 // What is counted among the routes of one boundary.
 #[derive(Clone, Copy)]
-enum Half {
+pub enum Half {
     Inbound,
     Outbound,
     OtherDomain,
@@ -29,14 +29,14 @@ enum Half {
 
 // The records of a federate, and the two texts that its identities name parts of.
 #[derive(Clone, Copy)]
-struct Routes<'a> {
-    pack: Pack<'a>,
-    batch: &'a [u8],
-    house: &'a [u8],
+pub struct Routes<'a> {
+    pub pack: Pack<'a>,
+    pub batch: &'a [u8],
+    pub house: &'a [u8],
 }
 
 // Whether a route of the same boundary counts.
-fn is_half(half: Half, route: RouteImage, candidate: RouteImage) -> bool
+pub fn is_half(half: Half, route: RouteImage, candidate: RouteImage) -> bool
     ensures { result ≡ is_half half route candidate }
 {
     match half {
@@ -69,7 +69,7 @@ impl<'a> Routes<'a> {
     }
 
     // How many there are in the pack.
-    #[tactic(auto, using(crate::proofs::Counts::count_laws))]
+    #[tactic(auto, using(schema::proofs::Counts::count_laws))]
     fn halves(self, route: RouteImage, half: Half) -> usize
         ensures { result ≡ halves (text_of self.entry) self.entry.pack.bytes.now route half }
     {
@@ -129,6 +129,7 @@ impl<'a> Routes<'a> {
 }
 
 // Every route's checks, in the order of the records: only the first at fault is compared with all.
+#[tactic(auto, using(crate::proofs::FirstFault::fault_first, crate::proofs::FirstFault::fault_none))]
 pub fn validate_federate_route_pairs(pack: Pack, batch: &[u8], house: &[u8]) -> Outcome
     ensures { let p = pack.entry.bytes.now in result ≡ first (run (route_record_checks (identity_text batch.now house.now) p) 0 (records_of p)) }
 {

@@ -1,1 +1,3 @@
+pub mod Counts
 pub mod Past
+pub mod Tables

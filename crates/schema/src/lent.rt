@@ -1,6 +1,6 @@
 // A lent pack of whole records, and the numbers that stand in one.
 ghost use Rattle.std.specs.Prelude.{◌≡◌, ◌+◌, ◌*◌, ◌/◌, ◌%◌, ◌^◌, ◌<◌, ◌≤◌, length};
-ghost use Rattle.schema.specs.Records.{records_of, is_of};
+ghost use Rattle.schema.specs.Records.{records_of, is_of, count_below};
 ghost use Rattle.schema.specs.Number.{number};
 ghost use Rattle.schema.specs.Tables.{start_of, rows_of, IsRising, EndsInside, tables};
 ghost use Rattle.schema.specs.Rows.{byte_of, bit_of, range, span, place};
@@ -20,8 +20,9 @@ pub struct Pack<'a> {
     ghost limited: { length bytes.now ≤ 4194304 },
 }
 
+// The W and the D from any byte that have theirs inside.
 #[tactic(auto, unfolding(crate::specs::Number::number))]
-fn word_at(p: &[u8], at: usize) -> u32
+pub fn word_at(p: &[u8], at: usize) -> u32
     requires { at + 4 ≤ length p.now }
     ensures { result ≡ number 4 p.now at }
 {
@@ -29,7 +30,7 @@ fn word_at(p: &[u8], at: usize) -> u32
 }
 
 #[tactic(auto, unfolding(crate::specs::Number::number))]
-fn long_at(p: &[u8], at: usize) -> u64
+pub fn long_at(p: &[u8], at: usize) -> u64
     requires { at + 8 ≤ length p.now }
     ensures { result ≡ number 8 p.now at }
 {
@@ -52,12 +53,30 @@ impl<'a> Pack<'a> {
         self.bytes.len() / 64
     }
 
-    // Whether record n is of a table.
+    // Whether record n is of a table; past the pack a record is all zeros.
+    #[tactic(auto, using(crate::proofs::Past::byte_past))]
     pub fn is_of(self, table: u8, n: usize) -> bool
-        requires { n < length self.bytes.now / 64 }
         ensures { result ≡ is_of self.entry.bytes.now table n }
     {
-        self.byte(n, 0) == table
+        if n < self.records() {
+            return self.byte(n, 0) == table;
+        }
+        table == 0
+    }
+
+    // How many records of a table the pack has.
+    #[tactic(auto, using(crate::proofs::Counts::count_laws))]
+    pub fn count_of(self, table: u8) -> usize
+        ensures count { let p = self.entry.bytes.now in result ≡ count_below (is_of p table) (records_of p) }
+        ensures within { result ≤ length self.entry.bytes.now / 64 }
+    {
+        let mut found = 0;
+        for n in 0..self.records() {
+            if self.is_of(table, n) {
+                found += 1;
+            }
+        }
+        found
     }
 
     // Byte j of record n, and the W and the D from byte j.
@@ -151,11 +170,12 @@ impl<'a> Enclave<'a> {
         self.starts[table as usize + 1] - self.starts[table as usize]
     }
 
-    // The record of row i of a table.
+    // The record of row i of a table: before the enclave's end, where the table has the row.
     pub fn record(self, table: u8, i: usize) -> usize
         requires known { table < tables }
         requires within { i < 2 ^ 33 }
-        ensures { result ≡ start_of self.entry.starts.now table + i }
+        ensures record { result ≡ start_of self.entry.starts.now table + i }
+        ensures inside { i < rows_of self.entry.starts.now table → result < start_of self.entry.starts.now tables }
     {
         self.starts[table as usize] as usize + i
     }

@@ -1,7 +1,7 @@
 // The rows of a pack's tables: their types, and their readers by a lent pack and a record or row number.
 #![tactic(auto)]
 
-mod fields;
+pub mod fields;
 pub mod index;
 pub mod lent;
 pub mod lists;

@@ -1,0 +1,9 @@
+use Rattle.std.proofs.Common.{arith}
+use Rattle.route_pairs.specs.RouteOrder.{text_of}
+use Rattle.route_pairs.proofs.FirstFault.{no_routes}
+use Rattle.route_pairs.proofs.Routes.first_fault.Goals as goal
+
+pub returns-then-routes-eq0 : goal.returns-then-routes-eq0
+returns-then-routes-eq0 c =
+    let counted = c.count-routes.ensures in
+    no_routes (text_of c.args.self) c.args.self.pack.bytes.now c.records.result (omega arith) c.records.ensures

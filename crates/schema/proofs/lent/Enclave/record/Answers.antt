@@ -1,0 +1,7 @@
+use Rattle.std.proofs.Common.{refl}
+use Rattle.schema.proofs.Tables.{row_inside}
+use Rattle.schema.proofs.lent.Enclave.record.Goals as goal
+
+pub returns-clause-inside : goal.returns-clause-inside
+returns-clause-inside c =
+    row_inside c.args.self.starts.now c.args.table c.args.i _ c.args.self.rising c.requires.known refl
