@@ -12,7 +12,7 @@ use Rattle.packing.specs.Packing.{packing_checks}
 use Rattle.scope_checks.specs.declared.links.Parents.TheVariants as parents
 use Rattle.scope_checks.specs.Scopes.{scope_checks}
 use Rattle.scope_checks.specs.Links.{cycle_checks, links, parents_answer}
-use Rattle.enclave.specs.Passes.{Pass, scope_passes, passes, pass_checks, checks_of, enclave_checks, checks_before_parents, checks_after_parents}
+use Rattle.enclave.specs.Passes.{Pass, head_passes, table_passes, row_passes, scope_passes, reaction_list_passes, scope_list_passes, entry_passes, enclave_list_passes, list_passes, passes, pass_checks, checks_of, enclave_checks, checks_before_parents}
 use Rattle.enclave.specs.declared.EnclaveAnswer.TheVariants as answer
 use Rattle.enclave.specs.declared.EnclaveAnswer.{EnclaveAnswer}
 use Rattle.answers.specs.Numbers.{numbers}
@@ -23,6 +23,19 @@ unfolding checks_of
 checks_append m [] gs = refl
 checks_append m (f ∷ fs) gs = rw (checks_append m fs gs) (sym (append_assoc (pass_checks m f) (checks_of m fs) (checks_of m gs)))
 
+-- the two groups of passes by their parts
+pub row_passes_are : (m : Image) → checks_of m row_passes ≡ checks_of m head_passes ++ checks_of m table_passes
+unfolding row_passes
+row_passes_are m = checks_append m head_passes table_passes
+
+pub list_passes_are : (m : Image)
+    → checks_of m list_passes ≡ checks_of m reaction_list_passes ++ (checks_of m scope_list_passes ++ (checks_of m entry_passes ++ checks_of m enclave_list_passes))
+unfolding list_passes
+list_passes_are m =
+    checks_append m reaction_list_passes (scope_list_passes ++ (entry_passes ++ enclave_list_passes))
+    ∙ ap (λ x. checks_of m reaction_list_passes ++ x)
+    (checks_append m scope_list_passes (entry_passes ++ enclave_list_passes) ∙ ap (λ x. checks_of m scope_list_passes ++ x) (checks_append m entry_passes enclave_list_passes))
+
 module _ (m : Image) where
   -- before the walk of the parents, the walk, and after it
   abbrev pub tables : List Check
@@ -32,7 +45,7 @@ module _ (m : Image) where
   cycles = run (cycle_checks m) 0 (m.rows 7)
 
   abbrev pub lists : List Check
-  lists = checks_after_parents m
+  lists = checks_of m list_passes
 
   scopes-and-cycles : checks_of m scope_passes ≡ run (scope_checks m) 0 (m.rows 7) ++ cycles
   unfolding scope_passes checks_of pass_checks

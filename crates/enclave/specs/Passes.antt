@@ -44,15 +44,19 @@ enclave_id_checks m i = id_check m.text field.kind_enclave 0 m.enclave_id ∷ []
 unfoldable pub head_passes : List Pass
 head_passes = times 8 length_checks ∷ times 1 root_checks ∷ times 1 enclave_id_checks ∷ []
 
--- the rows
-unfoldable pub row_passes : List Pass
-row_passes =
+-- the rows but for those of scopes
+unfoldable pub table_passes : List Pass
+table_passes =
     over 2 reactor_checks
     ∷ over 3 action_checks
     ∷ over 4 port_checks
     ∷ over 5 reaction_checks
     ∷ over 6 mode_checks
     ∷ []
+
+-- the passes before the rows of scopes
+unfoldable pub row_passes : List Pass
+row_passes = head_passes ++ table_passes
 
 -- the rows of scopes, and then parent cycles
 unfoldable pub scope_passes : List Pass
@@ -99,16 +103,13 @@ enclave_list_passes =
     ∷ over 24 binding_id_checks
     ∷ []
 
+-- the passes after parent cycles
+unfoldable pub list_passes : List Pass
+list_passes = reaction_list_passes ++ (scope_list_passes ++ (entry_passes ++ enclave_list_passes))
+
 -- the whole order
 unfoldable pub passes : List Pass
-passes =
-    head_passes
-    ++ (row_passes
-    ++ (scope_passes
-    ++ (reaction_list_passes
-    ++ (scope_list_passes
-    ++ (entry_passes
-    ++ enclave_list_passes)))))
+passes = row_passes ++ (scope_passes ++ list_passes)
 
 -- a pass's checks, item by item
 unfoldable pub pass_checks : Image → Pass → List Check
@@ -122,13 +123,6 @@ checks_of m (f ∷ fs) = pass_checks m f ++ checks_of m fs
 unfoldable pub enclave_checks : Image → List Check
 enclave_checks m = checks_of m passes
 
--- the checks before the walk of the parents, and those after it
+-- the checks before parent cycles
 abbrev pub checks_before_parents : Image → List Check
-checks_before_parents m = checks_of m head_passes ++ (checks_of m row_passes ++ run (scope_checks m) 0 (m.rows 7))
-
-abbrev pub checks_after_parents : Image → List Check
-checks_after_parents m =
-    checks_of m reaction_list_passes
-    ++ (checks_of m scope_list_passes
-    ++ (checks_of m entry_passes
-    ++ checks_of m enclave_list_passes))
+checks_before_parents m = checks_of m row_passes ++ run (scope_checks m) 0 (m.rows 7)

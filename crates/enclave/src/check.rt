@@ -1,15 +1,12 @@
 // The check of an enclave: packing, then the passes, with the links of its scopes.
 ghost use Rattle.std.specs.Prelude.{◌≡◌};
 ghost use Rattle.answers.specs.Checks.{first};
-ghost use Rattle.enclave.specs.Passes.{checks_before_parents, checks_after_parents};
+ghost use Rattle.enclave.specs.Passes.{checks_before_parents};
 ghost use Rattle.checks.specs.Image.{image_of};
 ghost use Rattle.enclave.specs.Answer.{answer_numbers, outcome_answer, image_result, enclave_answer};
 
 use crate::EnclaveAnswer;
-use crate::passes::{
-    check_enclave_lists, check_entries, check_head, check_reaction_lists, check_rows,
-    check_scope_tables,
-};
+use crate::passes::{check_lists, check_rows};
 use answers::Outcome;
 use packing::rules::check_packing;
 use packing::starts::{enclave, table_starts};
@@ -28,15 +25,11 @@ pub fn refused(outcome: Outcome) -> EnclaveAnswer
     }
 }
 
-// The passes up to the rows of scopes.
+// The passes before parent cycles.
 #[tactic(auto, using(answers::proofs::Laws::list_laws))]
-fn check_tables(e: Enclave) -> Outcome
+fn check_before_parents(e: Enclave) -> Outcome
     ensures { result ≡ first (checks_before_parents (image_of e.entry)) }
 {
-    let head = check_head(e);
-    let Outcome::Passed = head else {
-        return head;
-    };
     let rows = check_rows(e);
     let Outcome::Passed = rows else {
         return rows;
@@ -44,33 +37,13 @@ fn check_tables(e: Enclave) -> Outcome
     check_scopes(e)
 }
 
-// The passes after the walk of the parents.
-#[tactic(auto, using(answers::proofs::Laws::list_laws))]
-fn check_lists(e: Enclave) -> Outcome
-    ensures { result ≡ first (checks_after_parents (image_of e.entry)) }
-{
-    let reactions = check_reaction_lists(e);
-    let Outcome::Passed = reactions else {
-        return reactions;
-    };
-    let scopes = check_scope_tables(e);
-    let Outcome::Passed = scopes else {
-        return scopes;
-    };
-    let entries = check_entries(e);
-    let Outcome::Passed = entries else {
-        return entries;
-    };
-    check_enclave_lists(e)
-}
-
 // The passes in their order, with the links that the walk of the parents counts.
 pub fn check_image(e: Enclave) -> EnclaveAnswer
     ensures { result ≡ image_result (image_of e.entry) }
 {
-    let tables = check_tables(e);
-    let Outcome::Passed = tables else {
-        return refused(tables);
+    let rows = check_before_parents(e);
+    let Outcome::Passed = rows else {
+        return refused(rows);
     };
     let links = match check_parents(e) {
         Parents::Links(links) => links,

@@ -2,7 +2,7 @@
 #![tactic(auto, using(answers::proofs::Laws::list_laws))]
 
 pub mod check;
-mod passes;
+pub mod passes;
 
 use answers::Refusal;
 

@@ -3,7 +3,7 @@ ghost use Rattle.std.specs.Prelude.{◌≡◌, ◌<◌};
 ghost use Rattle.answers.specs.Checks.{first, run};
 ghost use Rattle.checks.specs.Image.{image_of};
 ghost use Rattle.schema.specs.Tables.{tables};
-ghost use Rattle.enclave.specs.Passes.{length_table, length_checks, root_checks, enclave_id_checks, head_passes, row_passes, reaction_list_passes, scope_list_passes, entry_passes, enclave_list_passes, checks_of};
+ghost use Rattle.enclave.specs.Passes.{length_table, length_checks, root_checks, enclave_id_checks, head_passes, table_passes, row_passes, reaction_list_passes, scope_list_passes, entry_passes, enclave_list_passes, list_passes, checks_of};
 
 use answers::{Outcome, field, kind};
 use checks::identities::validate_id;
@@ -88,7 +88,7 @@ fn check_enclave_id(e: Enclave) -> Outcome
 
 // Table lengths, root reactor, identity.
 #[tactic(auto, using(answers::proofs::Laws::list_laws), unfolding(answers::specs::Checks::first, crate::specs::Passes::checks_of, crate::specs::Passes::pass_checks, crate::specs::Passes::head_passes))]
-pub fn check_head(e: Enclave) -> Outcome
+fn check_head(e: Enclave) -> Outcome
     ensures { result ≡ first (checks_of (image_of e.entry) head_passes) }
 {
     let lengths = check_lengths(e);
@@ -103,9 +103,9 @@ pub fn check_head(e: Enclave) -> Outcome
 }
 
 // The rows but for those of scopes.
-#[tactic(auto, using(answers::proofs::Laws::list_laws), unfolding(answers::specs::Checks::first, crate::specs::Passes::checks_of, crate::specs::Passes::pass_checks, crate::specs::Passes::row_passes))]
-pub fn check_rows(e: Enclave) -> Outcome
-    ensures { result ≡ first (checks_of (image_of e.entry) row_passes) }
+#[tactic(auto, using(answers::proofs::Laws::list_laws), unfolding(answers::specs::Checks::first, crate::specs::Passes::checks_of, crate::specs::Passes::pass_checks, crate::specs::Passes::table_passes))]
+fn check_tables(e: Enclave) -> Outcome
+    ensures { result ≡ first (checks_of (image_of e.entry) table_passes) }
 {
     let reactors = check_reactors(e);
     let Outcome::Passed = reactors else {
@@ -126,9 +126,21 @@ pub fn check_rows(e: Enclave) -> Outcome
     check_modes(e)
 }
 
+// The passes before the rows of scopes.
+#[tactic(auto, using(answers::proofs::Laws::list_laws, crate::proofs::Whole::row_passes_are))]
+pub fn check_rows(e: Enclave) -> Outcome
+    ensures { result ≡ first (checks_of (image_of e.entry) row_passes) }
+{
+    let head = check_head(e);
+    let Outcome::Passed = head else {
+        return head;
+    };
+    check_tables(e)
+}
+
 // The lists of actions, ports and reactions.
 #[tactic(auto, using(answers::proofs::Laws::list_laws), unfolding(answers::specs::Checks::first, crate::specs::Passes::checks_of, crate::specs::Passes::pass_checks, crate::specs::Passes::reaction_list_passes))]
-pub fn check_reaction_lists(e: Enclave) -> Outcome
+fn check_reaction_lists(e: Enclave) -> Outcome
     ensures { result ≡ first (checks_of (image_of e.entry) reaction_list_passes) }
 {
     let action_triggers = check_action_triggers(e);
@@ -160,7 +172,7 @@ pub fn check_reaction_lists(e: Enclave) -> Outcome
 
 // The lists of scopes.
 #[tactic(auto, using(answers::proofs::Laws::list_laws), unfolding(answers::specs::Checks::first, crate::specs::Passes::checks_of, crate::specs::Passes::pass_checks, crate::specs::Passes::scope_list_passes))]
-pub fn check_scope_tables(e: Enclave) -> Outcome
+fn check_scope_tables(e: Enclave) -> Outcome
     ensures { result ≡ first (checks_of (image_of e.entry) scope_list_passes) }
 {
     let descendants = check_scope_entries::<{ ScopeDescendant::TABLE }>(e);
@@ -180,7 +192,7 @@ pub fn check_scope_tables(e: Enclave) -> Outcome
 
 // Every entry of the tables that ranges lead to.
 #[tactic(auto, using(answers::proofs::Laws::list_laws), unfolding(answers::specs::Checks::first, crate::specs::Passes::checks_of, crate::specs::Passes::pass_checks, crate::specs::Passes::entry_passes))]
-pub fn check_entries(e: Enclave) -> Outcome
+fn check_entries(e: Enclave) -> Outcome
     ensures { result ≡ first (checks_of (image_of e.entry) entry_passes) }
 {
     let triggers = check_level_entries::<{ ReactionTrigger::TABLE }>(e);
@@ -200,7 +212,7 @@ pub fn check_entries(e: Enclave) -> Outcome
 
 // The lists of the enclave itself, routes and bindings.
 #[tactic(auto, using(answers::proofs::Laws::list_laws), unfolding(answers::specs::Checks::first, crate::specs::Passes::checks_of, crate::specs::Passes::pass_checks, crate::specs::Passes::enclave_list_passes))]
-pub fn check_enclave_lists(e: Enclave) -> Outcome
+fn check_enclave_lists(e: Enclave) -> Outcome
     ensures { result ≡ first (checks_of (image_of e.entry) enclave_list_passes) }
 {
     let startups = check_startup_entries::<{ StartupAction::TABLE }>(e);
@@ -224,4 +236,24 @@ pub fn check_enclave_lists(e: Enclave) -> Outcome
         return routes;
     };
     check_binding_ids(e)
+}
+
+// The passes after parent cycles.
+#[tactic(auto, using(answers::proofs::Laws::list_laws, crate::proofs::Whole::list_passes_are))]
+pub fn check_lists(e: Enclave) -> Outcome
+    ensures { result ≡ first (checks_of (image_of e.entry) list_passes) }
+{
+    let reactions = check_reaction_lists(e);
+    let Outcome::Passed = reactions else {
+        return reactions;
+    };
+    let scopes = check_scope_tables(e);
+    let Outcome::Passed = scopes else {
+        return scopes;
+    };
+    let entries = check_entries(e);
+    let Outcome::Passed = entries else {
+        return entries;
+    };
+    check_enclave_lists(e)
 }

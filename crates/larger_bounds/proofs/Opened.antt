@@ -13,11 +13,11 @@ use Rattle.scope_checks.specs.Scopes.{scope_owner_checks, scope_row_checks, scop
 use Rattle.scope_checks.specs.Links.{cycle_checks}
 use Rattle.list_checks.specs.ListTables.{index_checks, startup_checks, action_trigger_checks, port_trigger_checks, enabled_mode_checks, enabled_modes_checks, scope_list_checks, level_entry_checks, lifecycle_entry_checks, index_order_checks, shutdown_action_checks}
 use Rattle.list_checks.specs.Routes.{route_order_checks, route_row, route_checks, binding_id_row, binding_id_checks}
-use Rattle.enclave.specs.Passes.{head_passes, row_passes, scope_passes, reaction_list_passes, scope_list_passes, entry_passes, enclave_list_passes, passes, length_checks}
+use Rattle.enclave.specs.Passes.{head_passes, table_passes, row_passes, scope_passes, reaction_list_passes, scope_list_passes, entry_passes, enclave_list_passes, list_passes, passes, length_checks}
 
 -- the whole order
 unfoldable pub the_passes : ⊤
-unfolding passes head_passes row_passes scope_passes reaction_list_passes scope_list_passes entry_passes enclave_list_passes
+unfolding passes head_passes table_passes row_passes scope_passes reaction_list_passes scope_list_passes entry_passes enclave_list_passes list_passes
 the_passes = tt
 
 -- the passes over rows

@@ -11,7 +11,7 @@ pub enum Record {
     End,
 }
 
-fn record_at(pack: Pack, place: usize) -> Record
+pub fn record_at(pack: Pack, place: usize) -> Record
     ensures { result ≡ record_at pack.entry.bytes.now place }
 {
     if place < pack.records() {
@@ -24,7 +24,7 @@ fn record_at(pack: Pack, place: usize) -> Record
 }
 
 // The place after a record; the end stays the end.
-fn next_of(pack: Pack, place: usize) -> usize
+pub fn next_record(pack: Pack, place: usize) -> usize
     ensures { result ≡ next_of pack.entry.bytes.now place }
 {
     if place < pack.records() {
@@ -47,7 +47,7 @@ impl<'a> Walker<'a> {
         ensures moved { self.new.place ≡ next_of self.old.pack.bytes.now self.old.place }
     {
         let record = record_at(self.pack, self.place);
-        self.place = next_of(self.pack, self.place);
+        self.place = next_record(self.pack, self.place);
         record
     }
 }

@@ -13,7 +13,7 @@ use schema::index::{BindingKind, BindingSlotIndex};
 use schema::lent::Enclave;
 use schema::rows::RequiredBindingImage;
 
-fn same_kind(a: BindingKind, b: BindingKind) -> bool
+pub fn same_kind(a: BindingKind, b: BindingKind) -> bool
     ensures { result ≡ same_kind a b }
 {
     match (a, b) {

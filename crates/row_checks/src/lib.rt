@@ -2,7 +2,7 @@
 #![tactic(auto)]
 
 pub mod actions;
-mod bindings;
+pub mod bindings;
 pub mod modes;
 pub mod ports;
 pub mod reactions;

@@ -25,7 +25,7 @@ pub struct ReactionEnds {
 }
 
 // The ends before the first row.
-fn no_ends() -> ReactionEnds
+pub fn no_ends() -> ReactionEnds
     ensures { result ≡ no_reaction_ends }
 {
     ReactionEnds {

@@ -30,9 +30,9 @@ pub struct ScopeEnds {
 
 // A row's answer, and the ends after it: as they were where the row is refused.
 #[derive(Clone, Copy)]
-struct MovedEnds {
-    ends: ScopeEnds,
-    outcome: Outcome,
+pub struct MovedEnds {
+    pub ends: ScopeEnds,
+    pub outcome: Outcome,
 }
 
 // The ends before the first row.
@@ -160,7 +160,7 @@ fn check_row(e: Enclave, i: u32, row: ScopeImage, ends: ScopeEnds) -> Outcome
 }
 
 // Row i by value, with the ends that come after it.
-fn moved_ends(e: Enclave, i: u32, row: ScopeImage, ends: ScopeEnds) -> MovedEnds
+pub fn moved_ends(e: Enclave, i: u32, row: ScopeImage, ends: ScopeEnds) -> MovedEnds
     ensures answer { result.outcome ≡ first (scope_row_checks (image_of e.entry) i row ends) }
     ensures moved { result.ends ≡ ends_after result.outcome row ends }
 {

@@ -3,5 +3,5 @@
 
 pub mod ends;
 pub mod links;
-mod owners;
+pub mod owners;
 pub mod scopes;

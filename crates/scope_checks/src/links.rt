@@ -40,7 +40,7 @@ fn depth_of(depths: &[u32], scope: ScopeIndex) -> u32
 
 // The links of a scope: parents followed until none, or until as many as there are scopes.
 #[tactic(auto, using(crate::proofs::LinksLaws::followed_laws), unfolding(crate::specs::Depths::Known))]
-fn links_of(e: Enclave, depths: &[u32], scope: ScopeIndex) -> u32
+pub fn links_of(e: Enclave, depths: &[u32], scope: ScopeIndex) -> u32
     requires { Known (image_of e) depths.now }
     ensures { let m = image_of e.entry in result ≡ links_of (parents m) (m.rows 7) scope.0 }
 {

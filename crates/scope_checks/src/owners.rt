@@ -14,7 +14,7 @@ use schema::lent::Enclave;
 use schema::rows::{ModeImage, ScopeImage};
 
 // The parent, where there is one, is there.
-fn check_parent(e: Enclave, i: u32, parent: MaybeScope) -> Outcome
+pub fn check_parent(e: Enclave, i: u32, parent: MaybeScope) -> Outcome
     ensures { let m = image_of e.entry in result ≡ first (parent_checks m.rows i parent) }
 {
     let MaybeScope::Scope(key) = parent else {
@@ -28,7 +28,7 @@ fn check_parent(e: Enclave, i: u32, parent: MaybeScope) -> Outcome
 }
 
 // The mode, where there is one, is there, and names scope i and its reactor.
-fn check_scope_mode(e: Enclave, i: u32, reactor: ReactorIndex, mode: MaybeMode) -> Outcome
+pub fn check_scope_mode(e: Enclave, i: u32, reactor: ReactorIndex, mode: MaybeMode) -> Outcome
     ensures { let m = image_of e.entry in result ≡ first (scope_mode_checks m.rows m.modes i reactor.0 mode) }
 {
     let MaybeMode::Mode(key) = mode else {

@@ -6,7 +6,7 @@ use Rattle.enclave.proofs.check.check_image.Goals as goal
 
 pub returns-in_default : goal.returns-in_default
 returns-in_default c =
-    c.refused.ensures ∙ tables_refused (image_of c.args.e) c.check_tables-tables.result c.check_tables-tables.ensures c.in_default.not-Passed
+    c.refused.ensures ∙ tables_refused (image_of c.args.e) c.check_before_parents-rows.result c.check_before_parents-rows.ensures c.in_default.not-Passed
 
 pub returns-in-Refused : goal.returns-in-Refused
 returns-in-Refused c = cycle_refused (image_of c.args.e) (sym c.in-Passed.ensures) c.in-Refused.r c.in-Refused.ensures
