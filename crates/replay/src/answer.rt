@@ -34,10 +34,11 @@ fn write_federate<W: Write>(texts: &Texts, output: &mut W) -> io::Result<()> {
     }
 }
 
+// A refusal has at most eight numbers.
 fn write_refusal<W: Write>(refusal: Refusal, output: &mut W) -> io::Result<()> {
     let list = answers::numbers(refusal);
     write!(output, "refused")?;
-    for n in list.values.iter().take(list.len) {
+    for n in &list.values[..list.len.min(8)] {
         write!(output, " {n}")?;
     }
     writeln!(output)

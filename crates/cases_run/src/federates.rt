@@ -1,6 +1,7 @@
 // The cases of a line.
+use crate::parts::{one_half, s, two_halves, two_scopes, uncovered_trigger};
 use crate::rows;
-use crate::stations::{one_half, s, show_federate, two_halves, two_scopes, uncovered_trigger};
+use crate::show::show_federate;
 use cases::records::Record;
 use schema::index::{RouteDirection, TimingDomain};
 use schema::rows::{EnclaveImage, ReactorImage, RouteImage, ScopeImage};

@@ -1,13 +1,12 @@
-// The rows of the cases: each starts from its empty row and sets what differs.
+// The rows that several cases have: each starts from its empty row and sets what differs.
 use identity::IdentityPlace;
 use range::{EnclaveSpan, IndexSpan, ModeSpan, SliceRange};
 use schema::index::{
-    ActionTiming, BankInfoImage, BindingKind, BindingSlotIndex, MaybeBank, MaybeBinding, MaybeMode,
-    MaybePeriod, MaybeScope, ModeIndex, ReactorIndex, RouteDirection, ScopeIndex, TimingDomain,
+    BindingKind, BindingSlotIndex, MaybeScope, RouteDirection, ScopeIndex, TimingDomain,
 };
 use schema::rows::{
-    ActionImage, EnclaveImage, FederateImage, ModeImage, PortImage, ReactionImage, ReactorImage,
-    RequiredBindingImage, RouteImage, ScopeImage,
+    EnclaveImage, FederateImage, PortImage, ReactorImage, RequiredBindingImage, RouteImage,
+    ScopeImage,
 };
 
 // A place in the batch text.
@@ -42,39 +41,10 @@ pub fn enclave_s() -> EnclaveImage {
     enclave(0, 1, 1, 0)
 }
 
-// S's enclave with one action slot.
-pub fn enclave_one_action() -> EnclaveImage {
-    enclave(0, 1, 1, 1)
-}
-
 pub fn reactor(root_scope: u32, start: u64, len: u64) -> ReactorImage {
     let mut row = ReactorImage::empty();
     row.root_scope = ScopeIndex(root_scope);
     row.modes = ModeSpan(IndexSpan { start, len });
-    row
-}
-
-pub fn bank_reactor(index: u32, total: u32) -> ReactorImage {
-    let mut row = ReactorImage::empty();
-    row.bank = MaybeBank::Bank(BankInfoImage { index, total });
-    row
-}
-
-// A timer with binding 0.
-pub fn bound_timer() -> ActionImage {
-    let mut row = ActionImage::empty();
-    row.binding = MaybeBinding::Binding(BindingSlotIndex(0));
-    row.timing = ActionTiming::Timer {
-        period_nanos: MaybePeriod::NoPeriod,
-    };
-    row
-}
-
-// A standard action with a binding and one trigger.
-pub fn triggering_action(binding: u32) -> ActionImage {
-    let mut row = ActionImage::empty();
-    row.binding = MaybeBinding::Binding(BindingSlotIndex(binding));
-    row.triggers = SliceRange { start: 0, len: 1 };
     row
 }
 
@@ -88,35 +58,9 @@ pub fn port(binding: u32, triggers: u32) -> PortImage {
     row
 }
 
-pub fn reaction(binding: u32) -> ReactionImage {
-    let mut row = ReactionImage::empty();
-    row.binding = BindingSlotIndex(binding);
-    row
-}
-
-pub fn mode(reactor: u32, scope: u32) -> ModeImage {
-    let mut row = ModeImage::empty();
-    row.reactor = ReactorIndex(reactor);
-    row.scope = ScopeIndex(scope);
-    row
-}
-
-pub fn scope(reactor: u32) -> ScopeImage {
-    let mut row = ScopeImage::empty();
-    row.reactor = ReactorIndex(reactor);
-    row
-}
-
 pub fn scope_under(parent: u32) -> ScopeImage {
     let mut row = ScopeImage::empty();
     row.parent = MaybeScope::Scope(ScopeIndex(parent));
-    row
-}
-
-// The scope of a mode of reactor 0.
-pub fn mode_scope(mode: u32) -> ScopeImage {
-    let mut row = ScopeImage::empty();
-    row.mode = MaybeMode::Mode(ModeIndex(mode));
     row
 }
 

@@ -1,13 +1,15 @@
 // The cases of a station.
+use crate::parts::{one_half, s, two_halves, two_scopes, uncovered_trigger};
 use crate::rows;
-use crate::stations::{
-    one_half, pack_of, s, show_enclave, show_enclave_bytes, two_halves, two_scopes,
-    uncovered_trigger,
-};
+use crate::show::{pack_of, show_enclave, show_enclave_bytes};
 use cases::records;
-use schema::index::{BindingKind, RouteDirection};
+use range::SliceRange;
+use schema::index::{
+    ActionTiming, BankInfoImage, BindingKind, BindingSlotIndex, MaybeBank, MaybeBinding, MaybeMode,
+    MaybePeriod, ModeIndex, ReactorIndex, RouteDirection, ScopeIndex,
+};
 use schema::lists::ReactionTrigger;
-use schema::rows::{ActionImage, EnclaveImage, ReactorImage, ScopeImage};
+use schema::rows::{ActionImage, EnclaveImage, ModeImage, ReactionImage, ReactorImage, ScopeImage};
 use std::alloc::{AllocError, Global};
 
 fn with_enclave(
@@ -21,12 +23,15 @@ fn with_enclave(
     show_enclave(out, alloc, name, &records, batch)
 }
 
-fn with_reactor(
+fn with_bank(
     out: &mut String,
     alloc: Global,
     name: &str,
-    reactor: ReactorImage,
+    index: u32,
+    total: u32,
 ) -> Result<(), AllocError> {
+    let mut reactor = ReactorImage::empty();
+    reactor.bank = MaybeBank::Bank(BankInfoImage { index, total });
     let records = s(rows::enclave_s(), reactor, ScopeImage::empty());
     show_enclave(out, alloc, name, &records, b"ab")
 }
@@ -44,14 +49,20 @@ fn with_scopes(
 
 // Reactor 0 has the modes 0+1, and reactor 1 an empty span.
 fn with_spans(out: &mut String, alloc: Global, name: &str, start: u64) -> Result<(), AllocError> {
+    let mut mode = ModeImage::empty();
+    mode.scope = ScopeIndex(2);
+    let mut second_root = ScopeImage::empty();
+    second_root.reactor = ReactorIndex(1);
+    let mut mode_scope = ScopeImage::empty();
+    mode_scope.mode = MaybeMode::Mode(ModeIndex(0));
     let records = [
         records::enclave(rows::enclave_s()),
         records::reactor(rows::reactor(0, 0, 1)),
         records::reactor(rows::reactor(1, start, 0)),
-        records::mode(rows::mode(0, 2)),
-        records::scope(rows::scope(0)),
-        records::scope(rows::scope(1)),
-        records::scope(rows::mode_scope(0)),
+        records::mode(mode),
+        records::scope(ScopeImage::empty()),
+        records::scope(second_root),
+        records::scope(mode_scope),
         records::binding(rows::binding_s()),
     ];
     show_enclave(out, alloc, name, &records, b"ab")
@@ -111,9 +122,9 @@ fn slots_and_parents(out: &mut String, alloc: Global) -> Result<(), AllocError> 
 fn spans_and_banks(out: &mut String, alloc: Global) -> Result<(), AllocError> {
     with_spans(out, alloc, "modes 0+1, then 0+0", 0)?;
     with_spans(out, alloc, "modes 0+1, then 1+0", 1)?;
-    with_reactor(out, alloc, "bank index 0 of 0", rows::bank_reactor(0, 0))?;
-    with_reactor(out, alloc, "bank index 3 of 3", rows::bank_reactor(3, 3))?;
-    with_reactor(out, alloc, "bank index 2 of 3", rows::bank_reactor(2, 3))
+    with_bank(out, alloc, "bank index 0 of 0", 0, 0)?;
+    with_bank(out, alloc, "bank index 3 of 3", 3, 3)?;
+    with_bank(out, alloc, "bank index 2 of 3", 2, 3)
 }
 
 // The identity stands behind S's own text.
@@ -127,10 +138,14 @@ fn identities(out: &mut String, alloc: Global) -> Result<(), AllocError> {
 }
 
 fn actions(out: &mut String, alloc: Global) -> Result<(), AllocError> {
-    let one = rows::enclave_one_action();
+    let one = rows::enclave(0, 1, 1, 1);
     let none = rows::enclave_s();
-    let timer = rows::bound_timer();
     let standard = ActionImage::empty();
+    let mut timer = ActionImage::empty();
+    timer.binding = MaybeBinding::Binding(BindingSlotIndex(0));
+    timer.timing = ActionTiming::Timer {
+        period_nanos: MaybePeriod::NoPeriod,
+    };
     with_action(out, alloc, "a timer with a binding", one, timer)?;
     with_action(out, alloc, "a standard action without", one, standard)?;
     with_action(
@@ -151,12 +166,17 @@ fn actions(out: &mut String, alloc: Global) -> Result<(), AllocError> {
 
 // An action and a port with the same trigger.
 fn shared_trigger(out: &mut String, alloc: Global) -> Result<(), AllocError> {
+    let mut action = ActionImage::empty();
+    action.binding = MaybeBinding::Binding(BindingSlotIndex(1));
+    action.triggers = SliceRange { start: 0, len: 1 };
+    let mut reaction = ReactionImage::empty();
+    reaction.binding = BindingSlotIndex(3);
     let records = [
-        records::enclave(rows::enclave_one_action()),
+        records::enclave(rows::enclave(0, 1, 1, 1)),
         records::reactor(ReactorImage::empty()),
-        records::action(rows::triggering_action(1)),
+        records::action(action),
         records::port(rows::port(2, 1)),
-        records::reaction(rows::reaction(3)),
+        records::reaction(reaction),
         records::scope(ScopeImage::empty()),
         records::trigger(ReactionTrigger::empty()),
         records::binding(rows::binding_s()),

@@ -1,11 +1,27 @@
 // Examples from outside for the text of an identity, a line for each: bytes or places, and the library's answer.
-use crate::words;
+#![tactic(auto)]
+
+ghost use Rattle.std.specs.Prelude.{◌≤◌, length};
+
 use identity::IdentityPlace;
-use std::alloc::{AllocError, Global};
+use std::alloc::AllocError;
+use std::io;
+use std::io::Write;
+
+// Adds bytes in hexadecimal, or `-` where there are none.
+fn hex(out: &mut String, text: &[u8]) -> Result<(), AllocError> {
+    if text.is_empty() {
+        out.push_str("-")?;
+    }
+    for b in text {
+        write!(out, "{b:02x}")?;
+    }
+    Ok(())
+}
 
 // A text, whether it is UTF-8, and whether it is a valid identity.
 fn show_text(out: &mut String, text: &[u8]) -> Result<(), AllocError> {
-    words::hex(out, text)?;
+    hex(out, text)?;
     let utf8 = if identity::scan::is_utf8(text) {
         " utf-8"
     } else {
@@ -20,31 +36,23 @@ fn show_text(out: &mut String, text: &[u8]) -> Result<(), AllocError> {
     out.push_str(valid)
 }
 
-// The text of three parts, one after the other.
-fn show_joined(
-    out: &mut String,
-    alloc: Global,
-    before: &[u8],
-    character: &[u8],
-    behind: &[u8],
-) -> Result<(), AllocError> {
-    let mut text = Vec::new(alloc);
-    text.extend_from_slice(before)?;
-    text.extend_from_slice(character)?;
-    text.extend_from_slice(behind)?;
-    show_text(out, &text)
-}
-
-// A character before letters, after them, and between them.
-fn show_character(
-    out: &mut String,
-    alloc: Global,
-    character: &[u8],
-    letters: &[u8],
-) -> Result<(), AllocError> {
-    show_joined(out, alloc, b"", character, letters)?;
-    show_joined(out, alloc, letters, character, b"")?;
-    show_joined(out, alloc, letters, character, letters)
+// A character of at most three bytes: before letters, after them, and between them.
+fn show_character(out: &mut String, character: &[u8], letters: &[u8]) -> Result<(), AllocError>
+    requires { length letters.now ≤ 21 }
+{
+    let n = character.len();
+    if 3 < n {
+        return Ok(());
+    }
+    let k = letters.len();
+    let end = k + n;
+    let mut text = [0u8; 45];
+    text[..k].copy_from_slice(letters);
+    text[k..end].copy_from_slice(character);
+    text[end..end + k].copy_from_slice(letters);
+    show_text(out, &text[k..end + k])?;
+    show_text(out, &text[..end])?;
+    show_text(out, &text[..end + k])
 }
 
 // Letters of more than a block of 16 bytes, one of them not ASCII.
@@ -60,17 +68,17 @@ enum Shown {
 // A heading, and texts or characters with bars between them.
 fn show_list(
     out: &mut String,
-    alloc: Global,
     shown: Shown,
     heading: &str,
     texts: &[u8],
 ) -> Result<(), AllocError> {
-    words::answer(out, heading, &[])?;
+    out.push_str(heading)?;
+    out.push_str("\n")?;
     for text in texts.split(|b| *b == b'|') {
         match shown {
             Shown::Text => show_text(out, text)?,
-            Shown::Character => show_character(out, alloc, text, b"a")?,
-            Shown::InBlocks => show_character(out, alloc, text, LETTERS)?,
+            Shown::Character => show_character(out, text, b"a")?,
+            Shown::InBlocks => show_character(out, text, LETTERS)?,
         }
     }
     Ok(())
@@ -108,7 +116,7 @@ fn show_place(out: &mut String, name: &str) -> Result<(), AllocError> {
     };
     out.push_str(name)?;
     out.push_str(inside)?;
-    words::hex(out, identity::place::identity_text(BATCH, HOUSE, place))?;
+    hex(out, identity::place::identity_text(BATCH, HOUSE, place))?;
     out.push_str("\n")
 }
 
@@ -126,10 +134,9 @@ fn show_order(out: &mut String, names: &str) -> Result<(), AllocError> {
     }
 }
 
-fn utf_8(out: &mut String, alloc: Global) -> Result<(), AllocError> {
+fn utf_8(out: &mut String) -> Result<(), AllocError> {
     show_list(
         out,
-        alloc,
         Shown::Text,
         "RFC 3629, section 7",
         b"\x41\xE2\x89\xA2\xCE\x91\x2E|\xED\x95\x9C\xEA\xB5\xAD\xEC\x96\xB4\
@@ -137,7 +144,6 @@ fn utf_8(out: &mut String, alloc: Global) -> Result<(), AllocError> {
     )?;
     show_list(
         out,
-        alloc,
         Shown::Text,
         "first bytes",
         b"\x00|\x7E|\x7F|\x80|\xBF|\xC0\x80|\xC1\xBF|\xC2\x80|\xC2\xBF|\xDF\xBF\
@@ -146,7 +152,6 @@ fn utf_8(out: &mut String, alloc: Global) -> Result<(), AllocError> {
     )?;
     show_list(
         out,
-        alloc,
         Shown::Text,
         "scalars in too many bytes, too high, surrogates and their neighbours",
         b"\xE0\x80\x80|\xE0\x9F\xBF|\xF0\x80\x80\x80|\xF0\x8F\xBF\xBF\
@@ -155,7 +160,6 @@ fn utf_8(out: &mut String, alloc: Global) -> Result<(), AllocError> {
     )?;
     show_list(
         out,
-        alloc,
         Shown::Text,
         "following bytes out of range, missing and left over",
         b"\xC3\x7F|\xC3\xC0|\xE1\x7F\x80|\xE1\xC0\x80|\xE1\x80\x7F|\xE1\x80\xC0\
@@ -165,17 +169,15 @@ fn utf_8(out: &mut String, alloc: Global) -> Result<(), AllocError> {
     )
 }
 
-fn identities(out: &mut String, alloc: Global) -> Result<(), AllocError> {
+fn identities(out: &mut String) -> Result<(), AllocError> {
     show_list(
         out,
-        alloc,
         Shown::Text,
         "document 01, and the empty text",
         b" a|\xC2\xA0|a b|\xE2\x80\x8B|",
     )?;
     show_list(
         out,
-        alloc,
         Shown::Text,
         "around a block of 16",
         b"abcdefghijklmno|abcdefghijklmnop|abcdefghijklmnopq|abcdefghijklmnopqrstuvwxyz012345\
@@ -187,17 +189,16 @@ fn identities(out: &mut String, alloc: Global) -> Result<(), AllocError> {
 const SURROGATES: &[u8] =
     b"\xED\x9F\xBF|\xED\xA0\x80|\xED\xAF\xBF|\xED\xB0\x80|\xED\xBF\xBF|\xEE\x80\x80";
 
-fn surrogates(out: &mut String, alloc: Global) -> Result<(), AllocError> {
+fn surrogates(out: &mut String) -> Result<(), AllocError> {
     let heading = "surrogates and their neighbours: first, last and in the middle";
-    show_list(out, alloc, Shown::Character, heading, SURROGATES)?;
+    show_list(out, Shown::Character, heading, SURROGATES)?;
     let heading = "surrogates and their neighbours in blocks: first, last and in the middle";
-    show_list(out, alloc, Shown::InBlocks, heading, SURROGATES)
+    show_list(out, Shown::InBlocks, heading, SURROGATES)
 }
 
-fn characters(out: &mut String, alloc: Global) -> Result<(), AllocError> {
+fn characters(out: &mut String) -> Result<(), AllocError> {
     show_list(
         out,
-        alloc,
         Shown::Character,
         "White_Space: first, last and in the middle",
         b"\x09|\x0A|\x0B|\x0C|\x0D|\x20|\xC2\x85|\xC2\xA0|\xE1\x9A\x80\
@@ -207,7 +208,6 @@ fn characters(out: &mut String, alloc: Global) -> Result<(), AllocError> {
     )?;
     show_list(
         out,
-        alloc,
         Shown::Character,
         "next to White_Space, and no control",
         b"\x21|\xC2\xA1|\xE1\x99\xBF|\xE1\x9A\x81|\xE1\xBF\xBF|\xE2\x80\x8B|\xE2\x80\xA7\
@@ -215,7 +215,6 @@ fn characters(out: &mut String, alloc: Global) -> Result<(), AllocError> {
     )?;
     show_list(
         out,
-        alloc,
         Shown::Character,
         "controls, and 7E: first, last and in the middle",
         b"\x00|\x08|\x0E|\x1F|\x7E|\x7F|\xC2\x80|\xC2\x84|\xC2\x86|\xC2\x9F",
@@ -237,10 +236,12 @@ fn places(out: &mut String) -> Result<(), AllocError> {
     Ok(())
 }
 
-pub fn show_all(out: &mut String, alloc: Global) -> Result<(), AllocError> {
-    utf_8(out, alloc)?;
-    surrogates(out, alloc)?;
-    identities(out, alloc)?;
-    characters(out, alloc)?;
-    places(out)
+fn main(rt: HostRuntime) -> io::Result<()> {
+    let mut out = String::new(rt.alloc());
+    utf_8(&mut out)?;
+    surrogates(&mut out)?;
+    identities(&mut out)?;
+    characters(&mut out)?;
+    places(&mut out)?;
+    io::writer(&rt).write_all(out.as_bytes())
 }

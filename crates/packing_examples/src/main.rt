@@ -1,24 +1,39 @@
 // Packs by hand for each packing refusal, a line for each: what is set in it, and the library's answer.
-use crate::words;
+#![tactic(auto)]
+
+ghost use Rattle.std.specs.Prelude.{◌<◌, ◌≤◌, length};
+
+use answers::Refusal;
 use packing::rules::check_packing;
 use packing::starts::table_starts;
 use packing::{PackAnswer, PackKind};
+use schema::lent::{PACK_LIMIT, Pack};
 use std::alloc::{AllocError, Global};
+use std::io;
+use std::io::Write;
 
 // How many bytes a record of each table uses.
 const USED: [u8; 25] = [
     44, 48, 44, 32, 20, 56, 12, 64, 12, 8, 8, 8, 8, 8, 8, 16, 12, 16, 16, 16, 16, 16, 8, 24, 12,
 ];
 
-const LONGEST_PACK: usize = 4_194_304;
-
-const LONGEST_TEXT: usize = 65_536;
+const TEXT_LIMIT: usize = 65_536;
 
 // `ab`, and e with an acute accent.
 const BATCH: &[u8] = b"ab\xC3\xA9";
 
 // `h`, and a byte that no UTF-8 has.
 const HOUSE: &[u8] = b"h\xFF";
+
+// Adds a refusal's number and the values after it.
+fn refused(out: &mut String, refusal: Refusal) -> Result<(), AllocError> {
+    let list = answers::numbers(refusal);
+    out.push_str(" refused")?;
+    for n in list.values.iter().take(list.len) {
+        write!(out, " {n}")?;
+    }
+    out.push_str("\n")
+}
 
 // The answer for a pack over two texts.
 fn write_answer(
@@ -30,18 +45,17 @@ fn write_answer(
 ) -> Result<(), AllocError> {
     match check_packing(kind, pack, batch, house) {
         PackAnswer::Pack(_) => out.push_str(" packed\n"),
-        PackAnswer::Refused(refusal) => {
-            out.push_str(" ")?;
-            words::refused(out, refusal)
-        }
+        PackAnswer::Refused(refusal) => refused(out, refusal),
     }
 }
 
 // The number of a digit in hexadecimal.
-fn hex(digit: u8) -> u8 {
-    match digit {
-        b'0'..=b'9' => digit - b'0',
-        b'A'..=b'F' => digit - b'A' + 10,
+fn digit(c: u8) -> u8
+    ensures { result < 16 }
+{
+    match c {
+        b'0'..=b'9' => c - b'0',
+        b'A'..=b'F' => c - b'A' + 10,
         _ => 0,
     }
 }
@@ -49,8 +63,8 @@ fn hex(digit: u8) -> u8 {
 // Four digits in hexadecimal: a byte's place in its record, and its value.
 fn set_byte(record: &mut [u8; 64], item: &[u8]) {
     if let [a, b, c, d] = item {
-        let at = hex(*a) << 4 | hex(*b);
-        record[(at % 64) as usize] = hex(*c) << 4 | hex(*d);
+        let at = digit(*a) << 4 | digit(*b);
+        record[(at % 64) as usize] = digit(*c) << 4 | digit(*d);
     }
 }
 
@@ -67,6 +81,22 @@ fn build(alloc: Global, text: &str) -> Result<Vec<u8>, AllocError> {
     Ok(pack)
 }
 
+// The place of the first bar from `at` on, or the list's end.
+fn bar(list: &[u8], at: usize) -> usize
+    requires { at ≤ length list.now }
+    ensures from { at ≤ result }
+    ensures inside { result ≤ length list.now }
+{
+    let mut i = at;
+    while i < list.len() {
+        if list[i] == b'|' {
+            return i;
+        }
+        i += 1;
+    }
+    i
+}
+
 // A heading, and each pack of a list that has bars between them.
 fn show_packs(
     out: &mut String,
@@ -75,11 +105,17 @@ fn show_packs(
     heading: &str,
     packs: &str,
 ) -> Result<(), AllocError> {
-    words::answer(out, heading, &[])?;
-    for text in packs.split('|') {
-        let pack = build(alloc, text)?;
-        out.push_str(text)?;
-        write_answer(out, kind, &pack, BATCH, HOUSE)?;
+    out.push_str(heading)?;
+    out.push_str("\n")?;
+    let mut at = 0;
+    while at <= packs.len() {
+        let end = bar(packs.as_bytes(), at);
+        if let Some(text) = packs.get(at..end) {
+            let pack = build(alloc, text)?;
+            out.push_str(text)?;
+            write_answer(out, kind, &pack, BATCH, HOUSE)?;
+        }
+        at = end + 1;
     }
     Ok(())
 }
@@ -96,12 +132,7 @@ fn show_byte(out: &mut String, table: u8, at: u8, value: u8) -> Result<(), Alloc
     pack[0] = 1;
     pack[start] = table;
     pack[start + (at % 64) as usize] = value;
-    out.push_str("table")?;
-    words::number(out, table as u64)?;
-    out.push_str(" byte")?;
-    words::number(out, at as u64)?;
-    out.push_str(" is")?;
-    words::number(out, value as u64)?;
+    write!(out, "table {table} byte {at} is {value}")?;
     write_answer(out, kind, &pack[..start + 64], BATCH, HOUSE)
 }
 
@@ -211,16 +242,15 @@ fn show_texts(out: &mut String, batch: &[u8], house: &[u8]) -> Result<(), AllocE
     let mut pack = [0u8; 64];
     pack[0] = 1;
     pack[9] = 1;
-    words::first_number(out, batch.len() as u64)?;
-    words::number(out, house.len() as u64)?;
+    write!(out, "{} {}", batch.len(), house.len())?;
     write_answer(out, PackKind::Enclave, &pack, batch, house)
 }
 
 fn texts(out: &mut String, alloc: Global) -> Result<(), AllocError> {
     out.push_str("lengths of the texts, the batch text first; the identity has 65,536 bytes\n")?;
-    let long = vec![in alloc; 0u8; LONGEST_TEXT + 1]?;
-    let most = vec![in alloc; 0u8; LONGEST_TEXT]?;
-    let fewer = vec![in alloc; 0u8; LONGEST_TEXT - 1]?;
+    let long = vec![in alloc; 0u8; TEXT_LIMIT + 1]?;
+    let most = vec![in alloc; 0u8; TEXT_LIMIT]?;
+    let fewer = vec![in alloc; 0u8; TEXT_LIMIT - 1]?;
     show_texts(out, b"", b"")?;
     show_texts(out, &fewer, b"")?;
     show_texts(out, &most, &most)?;
@@ -232,7 +262,7 @@ fn texts(out: &mut String, alloc: Global) -> Result<(), AllocError> {
 // An enclave and rows of table 9: up to one record more than a pack may have.
 fn lengths(out: &mut String, alloc: Global) -> Result<(), AllocError> {
     out.push_str("lengths of the pack\n")?;
-    let mut pack = vec![in alloc; 0u8; LONGEST_PACK + 64]?;
+    let mut pack = vec![in alloc; 0u8; PACK_LIMIT + 64]?;
     for record in pack.chunks_exact_mut(64) {
         record[0] = 9;
     }
@@ -243,28 +273,34 @@ fn lengths(out: &mut String, alloc: Global) -> Result<(), AllocError> {
         64,
         65,
         128,
-        LONGEST_PACK - 1,
-        LONGEST_PACK,
-        LONGEST_PACK + 1,
-        LONGEST_PACK + 64,
+        PACK_LIMIT - 1,
+        PACK_LIMIT,
+        PACK_LIMIT + 1,
+        PACK_LIMIT + 64,
     ] {
         if let Some(part) = pack.get(..len) {
-            words::first_number(out, len as u64)?;
+            write!(out, "{len}")?;
             write_answer(out, PackKind::Enclave, part, BATCH, HOUSE)?;
         }
     }
     Ok(())
 }
 
-// Where each table begins in an enclave's pack.
-fn show_starts(out: &mut String, alloc: Global, text: &str) -> Result<(), AllocError> {
-    let bytes = build(alloc, text)?;
-    out.push_str(text)?;
-    out.push_str(":")?;
-    if let PackAnswer::Pack(pack) = check_packing(PackKind::Enclave, &bytes, BATCH, HOUSE) {
-        let starts = table_starts(pack);
-        for start in &starts {
-            words::number(out, *start as u64)?;
+// Where the tables of the enclave begin whose rows start at record `rows`, counted over the whole pack. Its own pack is an enclave's
+// record and the records from `rows` on.
+fn show_starts(out: &mut String, alloc: Global, text: &str, rows: u32) -> Result<(), AllocError>
+    requires { 0 < rows }
+{
+    let pack = build(alloc, text)?;
+    let mut own = build(alloc, "0001")?;
+    if let Some(rest) = pack.get(rows as usize * 64..) {
+        own.extend_from_slice(rest)?;
+    }
+    write!(out, "{text} from {rows}:")?;
+    let len = own.len();
+    if 0 < len && len <= PACK_LIMIT && len % 64 == 0 {
+        for start in &table_starts(Pack { bytes: &own }) {
+            write!(out, " {}", u64::from(rows - 1) + u64::from(*start))?;
         }
     }
     out.push_str("\n")
@@ -272,21 +308,27 @@ fn show_starts(out: &mut String, alloc: Global, text: &str) -> Result<(), AllocE
 
 fn starts(out: &mut String, alloc: Global) -> Result<(), AllocError> {
     out.push_str("where the tables begin\n")?;
-    for text in "0001|0001/0002/0007/0007/0018|0001/0003/0003/0018/0018|0001/0002/0003/0004/0005/0006\
-        /0007/0008/0009/000A/000B/000C/000D/000E/000F/0010/0011/0012/0013/0014/0015/0016/0017/0018"
-        .split('|')
-    {
-        show_starts(out, alloc, text)?;
-    }
-    Ok(())
+    show_starts(out, alloc, "0001", 1)?;
+    show_starts(out, alloc, "0001", 9)?;
+    show_starts(out, alloc, "0001/0002/0007/0007/0018", 1)?;
+    show_starts(out, alloc, "0001/0003/0003/0018/0018", 1)?;
+    let line = "0000/0001/0002/0002/0005/0001/0003/0016";
+    show_starts(out, alloc, line, 2)?;
+    show_starts(out, alloc, line, 6)?;
+    show_starts(out, alloc, "0000/0001/0001/0002", 2)?;
+    let each_table = "0001/0002/0003/0004/0005/0006/0007/0008/0009/000A/000B/000C/000D/000E\
+        /000F/0010/0011/0012/0013/0014/0015/0016/0017/0018";
+    show_starts(out, alloc, each_table, 1)
 }
 
-pub fn show_all(out: &mut String, alloc: Global) -> Result<(), AllocError> {
-    lengths(out, alloc)?;
-    texts(out, alloc)?;
-    order(out, alloc)?;
-    fields(out, alloc)?;
-    identities(out, alloc)?;
-    tables(out)?;
-    starts(out, alloc)
+fn main(rt: HostRuntime) -> io::Result<()> {
+    let mut out = String::new(rt.alloc());
+    lengths(&mut out, rt.alloc())?;
+    texts(&mut out, rt.alloc())?;
+    order(&mut out, rt.alloc())?;
+    fields(&mut out, rt.alloc())?;
+    identities(&mut out, rt.alloc())?;
+    tables(&mut out)?;
+    starts(&mut out, rt.alloc())?;
+    io::writer(&rt).write_all(out.as_bytes())
 }

@@ -1,0 +1,8 @@
+// The operator's program; run here on document 01's line.
+#![tactic(auto)]
+
+use std::io;
+
+fn main(rt: HostRuntime) -> io::Result<()> {
+    line_check::run(&rt)
+}
