@@ -18,12 +18,7 @@ pub fn check_files<R: Files + Print + AllocGlobal>(
     let pack = files::read_file(rt, pack_name)?;
     let batch = files::read_file(rt, batch_name)?;
     let house = files::read_file(rt, house_name)?;
-    let line = line::line_for(
-        rt.alloc(),
-        pack.as_deref(),
-        batch.as_deref(),
-        house.as_deref(),
-    )?;
+    let line = line::line_for(pack.as_deref(), batch.as_deref(), house.as_deref());
     io::writer(rt).write_all(line.as_bytes())
 }
 
