@@ -170,12 +170,13 @@ impl<'a> Enclave<'a> {
         self.starts[table as usize + 1] - self.starts[table as usize]
     }
 
-    // The record of row i of a table: before the enclave's end, where the table has the row.
+    // The record of row i of a table: before the enclave's end and a record of the pack, where the table has the row.
     pub fn record(self, table: u8, i: usize) -> usize
         requires known { table < tables }
         requires within { i < 2 ^ 33 }
         ensures record { result ≡ start_of self.entry.starts.now table + i }
         ensures inside { i < rows_of self.entry.starts.now table → result < start_of self.entry.starts.now tables }
+        ensures there { i < rows_of self.entry.starts.now table → result < length self.entry.pack.bytes.now / 64 }
     {
         self.starts[table as usize] as usize + i
     }
