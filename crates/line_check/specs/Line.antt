@@ -1,5 +1,5 @@
 -- The line that the program prints, in bytes. Assumes nothing.
-use Rattle.std.specs.Prelude.{ℕ, zero, suc, Bool, ◌||◌, nat_lt, Option, Some, List, [], ◌∷◌, ◌++◌, length, codes, decimal, if◌then◌else◌}
+use Rattle.std.specs.Prelude.{ℕ, zero, suc, Bool, ◌||◌, nat_lt, Option, Some, None, List, [], ◌∷◌, ◌++◌, length, take, codes, decimal, if◌then◌else◌}
 use Rattle.federate.specs.Answer.{federate_answer}
 
 -- a blank and a number, without zeros in front
@@ -20,6 +20,11 @@ abbrev pub answer_line : List ℕ → List ℕ
 answer_line [] = line (codes "refused") []
 answer_line (zero ∷ ns) = line (codes "accepted") ns
 answer_line (suc k ∷ ns) = line (codes "refused") (suc k ∷ ns)
+
+-- the bytes that were read: so many from the room's start
+abbrev pub part_read : List ℕ → Option ℕ → Option (List ℕ)
+part_read room (Some n) = Some (take n room)
+part_read room None = None
 
 -- a file's bytes are over the limit
 abbrev pub too_long : List ℕ → Bool

@@ -1,30 +1,48 @@
 // Reading the files of a line image.
-ghost use Rattle.std.specs.Prelude.{◌≤◌, length, IfOk, IfSome};
+ghost use Rattle.std.specs.Prelude.{◌≡◌, ◌≤◌, length, IfOk, IfSome, option_copied};
+ghost use Rattle.line_check.specs.Line.{part_read};
 
-use std::alloc::AllocError;
 use std::io::Read;
 use std::rt::Files;
 use std::{fs, io};
 
-// The most bytes that a file of a line image may have.
+// The most bytes that a file of a line image may have. There is room for one more, by which a longer file is told.
 pub const LIMIT: usize = 65_536;
 
-// The bytes of the file of that name, with one past the limit of a longer one; None where it cannot be read, as a directory.
-pub fn read_file<R: Files + AllocGlobal>(rt: &R, name: &str) -> Result<Option<Vec<u8>>, AllocError>
-    ensures { IfOk result (λ read. IfSome read (λ v. length v.items ≤ 65537)) }
+pub type Room = [u8; 65_537];
+
+// How many bytes of the file of that name stand in the room: all, or as many as it takes. None where it cannot be read, as a directory.
+pub fn read_file<R: Files>(rt: &R, name: &str, room: &mut [u8]) -> Option<usize>
+    ensures { IfSome result (λ n. n ≤ length room.new) }
 {
-    let mut bytes = Vec::with_capacity(rt.alloc(), LIMIT + 1)?;
-    match read_into(rt, name, &mut bytes) {
-        Ok(()) => {
-            bytes.truncate(LIMIT + 1);
-            Ok(Some(bytes))
-        }
-        Err(_) => Ok(None),
+    match fs::open(rt, name) {
+        Ok(mut file) => fill(&mut file, room).ok(),
+        Err(_) => None,
     }
 }
 
-fn read_into<R: Files>(rt: &R, name: &str, bytes: &mut Vec<u8>) -> io::Result<()> {
-    let file = fs::open(rt, name)?;
-    file.take(LIMIT as u64 + 1).read_to_end(bytes)?;
-    Ok(())
+// Reads until the file ends or the room is full.
+fn fill<R: Read>(reader: &mut R, room: &mut [u8]) -> io::Result<usize>
+    ensures { IfOk result (λ n. n ≤ length room.new) }
+{
+    let mut at = 0;
+    while at < room.len() {
+        let n = reader.read(&mut room[at..])?;
+        if n == 0 {
+            break;
+        }
+        at += n;
+    }
+    Ok(at)
+}
+
+// What was read.
+pub fn part(room: &[u8], read: Option<usize>) -> Option<&[u8]>
+    requires { IfSome read (λ n. n ≤ length room.now) }
+    ensures { option_copied result ≡ part_read room.now read }
+{
+    match read {
+        Some(n) => Some(&room[..n]),
+        None => None,
+    }
 }

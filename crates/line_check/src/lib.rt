@@ -4,25 +4,33 @@
 mod files;
 mod line;
 
+use files::{Room, part, read_file};
 use std::io;
 use std::io::Write;
 use std::rt::Files;
 
 // Reads the files of these names, and writes the line of their answer to standard output.
-pub fn check_files<R: Files + Print + AllocGlobal>(
+pub fn check_files<R: Files + Print>(
     rt: &R,
     pack_name: &str,
     batch_name: &str,
     house_name: &str,
 ) -> io::Result<()> {
-    let pack = files::read_file(rt, pack_name)?;
-    let batch = files::read_file(rt, batch_name)?;
-    let house = files::read_file(rt, house_name)?;
-    let line = line::line_for(pack.as_deref(), batch.as_deref(), house.as_deref());
+    let mut pack: Room = [0; 65_537];
+    let mut batch: Room = [0; 65_537];
+    let mut house: Room = [0; 65_537];
+    let pack_read = read_file(rt, pack_name, &mut pack);
+    let batch_read = read_file(rt, batch_name, &mut batch);
+    let house_read = read_file(rt, house_name, &mut house);
+    let line = line::line_for(
+        part(&pack, pack_read),
+        part(&batch, batch_read),
+        part(&house, house_read),
+    );
     io::writer(rt).write_all(line.as_bytes())
 }
 
 // The line image in the current directory.
-pub fn run<R: Files + Print + AllocGlobal>(rt: &R) -> io::Result<()> {
+pub fn run<R: Files + Print>(rt: &R) -> io::Result<()> {
     check_files(rt, "line.pack", "batch.txt", "house.txt")
 }
