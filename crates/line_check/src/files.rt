@@ -9,7 +9,7 @@ use std::{fs, io};
 // The most bytes that a file of a line image may have. There is room for one more, by which a longer file is told.
 pub const LIMIT: usize = 65_536;
 
-pub type Room = [u8; 65_537];
+pub const ROOM: usize = 65_537;
 
 // How many bytes of the file of that name stand in the room: all, or as many as it takes. None where it cannot be read, as a directory.
 pub fn read_file<R: Files>(rt: &R, name: &str, room: &mut [u8]) -> Option<usize>

@@ -4,7 +4,7 @@
 mod files;
 mod line;
 
-use files::{Room, part, read_file};
+use files::{ROOM, part, read_file};
 use std::io;
 use std::io::Write;
 use std::rt::Files;
@@ -16,9 +16,9 @@ pub fn check_files<R: Files + Print>(
     batch_name: &str,
     house_name: &str,
 ) -> io::Result<()> {
-    let mut pack: Room = [0; 65_537];
-    let mut batch: Room = [0; 65_537];
-    let mut house: Room = [0; 65_537];
+    let mut pack = [0u8; ROOM];
+    let mut batch = [0u8; ROOM];
+    let mut house = [0u8; ROOM];
     let pack_read = read_file(rt, pack_name, &mut pack);
     let batch_read = read_file(rt, batch_name, &mut batch);
     let house_read = read_file(rt, house_name, &mut house);
