@@ -127,9 +127,9 @@ levels_at p s t i = level_at p (start_of s t + i)
 abbrev pub lifecycles_at : List ℕ → List ℕ → ℕ → ℕ → LifecycleReactionImage
 lifecycles_at p s t i = lifecycle_at p (start_of s t + i)
 
--- the image of the enclave of the pack p, whose tables begin at s
-abbrev pub image : List ℕ → List ℕ → List ℕ → List ℕ → Image
-image p batch house s =
+-- the image of the enclave whose record is record n of the pack p, and whose tables begin at s
+abbrev pub image : List ℕ → List ℕ → List ℕ → List ℕ → ℕ → Image
+image p batch house s n =
     record {
       rows = rows_of s;
       reactors = λ i. reactor_at p (start_of s 2 + i);
@@ -144,12 +144,12 @@ image p batch house s =
       lifecycles = lifecycles_at p s;
       routes = λ i. route_part (route_at p (start_of s 23 + i));
       bindings = bindings_at p s;
-      enclave_id = (enclave_at p 0).enclave_id;
+      enclave_id = (enclave_at p n).enclave_id;
       text = λ id. identity_text batch house id;
-      state_slots = (enclave_at p 0).storage_bounds.state_slots;
-      action_slots = (enclave_at p 0).storage_bounds.action_slots;
+      state_slots = (enclave_at p n).storage_bounds.state_slots;
+      action_slots = (enclave_at p n).storage_bounds.action_slots;
     }
 
 -- the image of an enclave as it is lent
 abbrev pub image_of : Enclave → Image
-image_of e = image e.pack.bytes.now e.batch.now e.house.now e.starts.now
+image_of e = image e.pack.bytes.now e.batch.now e.house.now e.starts.now e.own

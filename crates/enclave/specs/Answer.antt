@@ -48,7 +48,7 @@ image_answer m = unless (first (enclave_checks m)) (0 ∷ links m ∷ [])
 
 -- the image of an enclave pack: its record is 0, its rows start at record 1
 abbrev pub pack_image : List ℕ → List ℕ → List ℕ → Image
-pack_image p batch house = image p batch house (table_starts p 1)
+pack_image p batch house = image p batch house (table_starts p 1) 0
 
 -- the answer for a pack: packing first
 unfoldable pub enclave_answer : List ℕ → List ℕ → List ℕ → List ℕ

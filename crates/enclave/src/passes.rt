@@ -83,7 +83,7 @@ fn check_root(e: Enclave) -> Outcome
 fn check_enclave_id(e: Enclave) -> Outcome
     ensures { result ≡ first (run (enclave_id_checks (image_of e.entry)) 0 1) }
 {
-    validate_id(e, kind::ENCLAVE, 0, EnclaveImage::at(e.pack, 0).enclave_id)
+    validate_id(e, kind::ENCLAVE, 0, EnclaveImage::at(e.pack, e.own).enclave_id)
 }
 
 // Table lengths, root reactor, identity.

@@ -53,12 +53,14 @@ pub fn enclave<'a>(
 ) -> Enclave<'a>
     requires { starts.now ≡ table_starts pack.bytes.now 1 }
     ensures pack { result.pack ≡ pack.entry }
+    ensures own { result.own ≡ 0 }
     ensures starts { result.starts ≡ starts.entry }
     ensures batch { result.batch ≡ batch.entry }
     ensures house { result.house ≡ house.entry }
 {
     Enclave {
         pack,
+        own: 0,
         starts,
         batch,
         house,

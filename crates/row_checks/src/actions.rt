@@ -59,7 +59,7 @@ fn check_action_row(e: Enclave, i: u32, row: ActionImage, previous_end: u64) -> 
     let Found::Row(_) = scope else {
         return scope.refused();
     };
-    let bound = EnclaveImage::at(e.pack, 0).storage_bounds.action_slots;
+    let bound = EnclaveImage::at(e.pack, e.own).storage_bounds.action_slots;
     let slot = check_slot(ActionImage::TABLE, bound, i, row.storage_slot);
     let Outcome::Passed = slot else {
         return slot;

@@ -112,7 +112,7 @@ fn check_reactor_row(e: Enclave, i: u32, row: ReactorImage, previous_end: u64) -
     let Outcome::Passed = binding else {
         return binding;
     };
-    let bound = EnclaveImage::at(e.pack, 0).storage_bounds.state_slots;
+    let bound = EnclaveImage::at(e.pack, e.own).storage_bounds.state_slots;
     let slot = check_slot(ReactorImage::TABLE, bound, i, row.state_slot);
     let Outcome::Passed = slot else {
         return slot;

@@ -1,14 +1,14 @@
 -- The records of a pack by their table. Assumes nothing.
-use Rattle.std.specs.Prelude.{ℕ, zero, suc, ◌+◌, ◌/◌, Bool, cond, List, length, eqb}
+use Rattle.std.specs.Prelude.{ℕ, zero, suc, ◌+◌, ◌/◌, Bool, cond, List, length, ltb, eqb}
 use Rattle.schema.specs.declared.index.RouteDirection.{RouteDirection}
 use Rattle.schema.specs.declared.index.RouteDirection.TheVariants.{Inbound, Outbound}
 use Rattle.schema.specs.declared.index.TimingDomain.{TimingDomain}
 use Rattle.schema.specs.declared.index.TimingDomain.TheVariants.{Logical, Physical}
 use Rattle.schema.specs.Rows.{byte_of}
 
--- how many records a pack has
+-- the records of a pack, at most as many as the pack's limit has
 abbrev pub records_of : List ℕ → ℕ
-records_of p = length p / 64
+records_of p = cond (ltb (length p / 64) 65536) (length p / 64) 65536
 
 -- record n is of table t
 abbrev pub is_of : List ℕ → ℕ → ℕ → Bool

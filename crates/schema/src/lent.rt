@@ -11,13 +11,24 @@ use range::{IndexSpan, SliceRange};
 // At most so many bytes are a pack.
 pub const PACK_LIMIT: usize = 4_194_304;
 
-// A pack: records of 64 bytes, one at least, within the limit.
+// Records of 64 bytes.
 #[derive(Clone, Copy)]
 pub struct Pack<'a> {
     pub bytes: &'a [u8],
-    ghost some: { 0 < length bytes.now },
     ghost whole: { length bytes.now % 64 ≡ 0 },
-    ghost limited: { length bytes.now ≤ 4194304 },
+}
+
+// How many records of a pack are looked at: all, and no more than fit the limit.
+pub fn records_of(pack: &[u8]) -> u32
+    ensures value { result ≡ records_of pack.now }
+    ensures inside { result ≤ length pack.now / 64 }
+    ensures few { result ≤ 65536 }
+{
+    let records = pack.len() / 64;
+    if records < PACK_LIMIT / 64 {
+        return records as u32;
+    }
+    65536
 }
 
 // The W and the D from any byte that have theirs inside.
@@ -48,7 +59,7 @@ pub fn bit(b: u8, k: u32) -> bool
 impl<'a> Pack<'a> {
     // How many records the pack has.
     pub fn records(self) -> usize
-        ensures { result ≡ records_of self.entry.bytes.now }
+        ensures { result ≡ length self.entry.bytes.now / 64 }
     {
         self.bytes.len() / 64
     }
@@ -71,7 +82,7 @@ impl<'a> Pack<'a> {
         ensures within { result ≤ length self.entry.bytes.now / 64 }
     {
         let mut found = 0;
-        for n in 0..self.records() {
+        for n in 0..records_of(self.bytes) as usize {
             if self.is_of(table, n) {
                 found += 1;
             }
@@ -150,10 +161,20 @@ pub const TABLES: usize = 25;
 // The record number of each table's first row in one enclave, and of the enclave's end.
 pub type TableStarts = [u32; 26];
 
-// One enclave of a pack: where its tables begin, and the two texts that its identities name parts of.
+// How many rows a table has.
+pub fn rows_of(starts: &TableStarts, table: u8) -> u32
+    requires rising { IsRising starts.now }
+    requires known { table < tables }
+    ensures { result ≡ rows_of starts.now table }
+{
+    starts[table as usize + 1] - starts[table as usize]
+}
+
+// One enclave of a pack: the number of its own record, where its tables begin, and the two texts that its identities name parts of.
 #[derive(Clone, Copy)]
 pub struct Enclave<'a> {
     pub pack: Pack<'a>,
+    pub own: usize,
     pub starts: &'a TableStarts,
     pub batch: &'a [u8],
     pub house: &'a [u8],
@@ -167,7 +188,7 @@ impl<'a> Enclave<'a> {
         requires { table < tables }
         ensures { result ≡ rows_of self.entry.starts.now table }
     {
-        self.starts[table as usize + 1] - self.starts[table as usize]
+        rows_of(self.starts, table)
     }
 
     // The record of row i of a table: before the enclave's end and a record of the pack, where the table has the row.
