@@ -4,6 +4,7 @@
 ghost use Rattle.std.specs.Prelude.{◌≡◌, [], ◌∷◌, length};
 ghost use Rattle.answers.specs.Numbers.{bit, placed, numbers};
 ghost use Rattle.answers.specs.Listed.{listed};
+ghost use Rattle.answers.specs.Checks.{is_passed};
 
 pub mod field;
 pub mod kind;
@@ -121,6 +122,18 @@ pub enum Refusal {
 pub enum Outcome {
     Passed,
     Refused(Refusal),
+}
+
+impl Outcome {
+    // Whether it is no refusal.
+    pub fn is_passed(self) -> bool
+        ensures { result ≡ is_passed self }
+    {
+        match self {
+            Outcome::Passed => true,
+            Outcome::Refused(_) => false,
+        }
+    }
 }
 
 // A list of numbers: the first `len` of `values`.

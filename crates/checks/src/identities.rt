@@ -1,15 +1,14 @@
 // Identities: valid, and above the identity before.
 ghost use Rattle.std.specs.Prelude.{◌≡◌, [], ◌∷◌};
 ghost use Rattle.answers.specs.Checks.{first};
-ghost use Rattle.checks.specs.Image.{image_of};
-ghost use Rattle.checks.specs.Identities.{id_check, text_order_checks};
+ghost use Rattle.identity.specs.Text.{identity_text};
+ghost use Rattle.checks.specs.Identities.{id_check, id_order_checks, text_order_checks};
 
 use answers::{Outcome, Refusal};
 use identity::compare::compare_bytes;
 use identity::place::identity_text;
 use identity::scan::valid_id;
 use identity::{ByteOrder, IdentityPlace};
-use schema::lent::Enclave;
 
 // An identity of a row, whose text is lent, is valid.
 pub fn validate_text(kind: u8, index: u32, id: IdentityPlace, text: &[u8]) -> Outcome
@@ -21,11 +20,17 @@ pub fn validate_text(kind: u8, index: u32, id: IdentityPlace, text: &[u8]) -> Ou
     Outcome::Refused(Refusal::InvalidStableId { kind, index, id })
 }
 
-// An identity of a row of an enclave is valid.
-pub fn validate_id(e: Enclave, kind: u8, index: u32, id: IdentityPlace) -> Outcome
-    ensures { result ≡ first (id_check (image_of e.entry).text kind index id ∷ []) }
+// An identity of a row, by its place, is valid.
+pub fn validate_id<'a>(
+    batch: &'a [u8],
+    house: &'a [u8],
+    kind: u8,
+    index: u32,
+    id: IdentityPlace,
+) -> Outcome
+    ensures { result ≡ first (id_check (identity_text batch.now house.now) kind index id ∷ []) }
 {
-    validate_text(kind, index, id, identity_text(e.batch, e.house, id))
+    validate_text(kind, index, id, identity_text(batch, house, id))
 }
 
 // An identity of a row differs from the one before, and is not below it; both texts are lent.
@@ -43,4 +48,19 @@ pub fn validate_text_order(
         ByteOrder::Equal => Outcome::Refused(Refusal::DuplicateStableId { kind, index, id }),
         ByteOrder::Greater => Outcome::Passed,
     }
+}
+
+// The same, both by their places.
+pub fn validate_id_order<'a>(
+    batch: &'a [u8],
+    house: &'a [u8],
+    kind: u8,
+    index: u32,
+    id: IdentityPlace,
+    before: IdentityPlace,
+) -> Outcome
+    ensures { result ≡ first (id_order_checks (identity_text batch.now house.now) kind index id before) }
+{
+    let text = identity_text(batch, house, id);
+    validate_text_order(kind, index, id, text, identity_text(batch, house, before))
 }

@@ -49,7 +49,7 @@ fn length_table(i: u32) -> u8
 fn check_length(e: Enclave, i: u32) -> Outcome
     ensures { result ≡ first (length_checks (image_of e.entry) i) }
 {
-    check_enclave_len(e, length_table(i))
+    check_enclave_len(e.starts, length_table(i))
 }
 
 #[tactic(auto, using(answers::proofs::Loops::run_laws))]
@@ -70,7 +70,7 @@ fn check_root(e: Enclave) -> Outcome
     ensures { result ≡ first (run (root_checks (image_of e.entry)) 0 1) }
 {
     check_reactor_ref(
-        e,
+        e.starts,
         EnclaveImage::TABLE,
         0,
         field::ROOT_REACTOR,

@@ -110,7 +110,7 @@ fn check_lifecycle_entry<const T: u8>(e: Enclave, i: u32) -> Outcome
     ensures { result ≡ first (lifecycle_entry_checks T (image_of e.entry) i) }
 {
     let entry = LifecycleEntry::<T>::row(e, i as usize).0;
-    let found = check_action_ref(e, T, i, field::ACTION, entry.action);
+    let found = check_action_ref(e.starts, T, i, field::ACTION, entry.action);
     let Found::Row(_) = found else {
         return found.refused();
     };

@@ -27,7 +27,7 @@ pub fn check_port_entries<const T: u8>(e: Enclave) -> Outcome
 {
     for i in 0..e.rows(T) {
         let entry = PortEntry::<T>::row(e, i as usize);
-        let found = check_port_ref(e, T, i, field::PORT, entry.0);
+        let found = check_port_ref(e.starts, T, i, field::PORT, entry.0);
         let Found::Row(_) = found else {
             return found.refused();
         };
@@ -43,7 +43,7 @@ pub fn check_action_entries<const T: u8>(e: Enclave) -> Outcome
 {
     for i in 0..e.rows(T) {
         let entry = ActionEntry::<T>::row(e, i as usize);
-        let found = check_action_ref(e, T, i, field::ACTION, entry.0);
+        let found = check_action_ref(e.starts, T, i, field::ACTION, entry.0);
         let Found::Row(_) = found else {
             return found.refused();
         };
@@ -59,7 +59,7 @@ pub fn check_mode_entries<const T: u8>(e: Enclave) -> Outcome
 {
     for i in 0..e.rows(T) {
         let entry = ModeEntry::<T>::row(e, i as usize);
-        let found = check_mode_ref(e, T, i, field::MODE, entry.0);
+        let found = check_mode_ref(e.starts, T, i, field::MODE, entry.0);
         let Found::Row(_) = found else {
             return found.refused();
         };
@@ -75,7 +75,7 @@ pub fn check_scope_entries<const T: u8>(e: Enclave) -> Outcome
 {
     for i in 0..e.rows(T) {
         let entry = ScopeEntry::<T>::row(e, i as usize);
-        let found = check_scope_ref(e, T, i, field::SCOPE, entry.0);
+        let found = check_scope_ref(e.starts, T, i, field::SCOPE, entry.0);
         let Found::Row(_) = found else {
             return found.refused();
         };
@@ -91,7 +91,7 @@ pub fn check_startup_entries<const T: u8>(e: Enclave) -> Outcome
 {
     for i in 0..e.rows(T) {
         let startup = StartupEntry::<T>::row(e, i as usize).0;
-        let found = check_action_ref(e, T, i, field::ACTION, startup.action);
+        let found = check_action_ref(e.starts, T, i, field::ACTION, startup.action);
         let Found::Row(_) = found else {
             return found.refused();
         };
@@ -106,7 +106,7 @@ fn check_enabled_mode(e: Enclave, i: u32, reactor: ReactorIndex, start: u32, k: 
 {
     let key = ReactionMode::row(e, start as usize + k as usize).0;
     let index = entry_index(start, k);
-    let found = check_mode_ref(e, ReactionMode::TABLE, index, field::MODE, key);
+    let found = check_mode_ref(e.starts, ReactionMode::TABLE, index, field::MODE, key);
     let Found::Row(mode) = found else {
         return found.refused();
     };
@@ -170,7 +170,7 @@ fn check_shutdown_action(e: Enclave, i: u32) -> Outcome
 {
     let table = ShutdownAction::TABLE;
     let key = ShutdownAction::row(e, i as usize).0;
-    let found = check_action_ref(e, table, i, field::ACTION, key);
+    let found = check_action_ref(e.starts, table, i, field::ACTION, key);
     let Found::Row(action) = found else {
         return found.refused();
     };

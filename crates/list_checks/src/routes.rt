@@ -75,7 +75,7 @@ fn check_route(
     let Outcome::Passed = order else {
         return order;
     };
-    check_port_ref(e, RouteImage::TABLE, i, field::LOCAL_PORT, route.local_port).refused()
+    check_port_ref(e.starts, RouteImage::TABLE, i, field::LOCAL_PORT, route.local_port).refused()
 }
 
 // Every route. Row 0, which is compared with none, stands for the row before itself.

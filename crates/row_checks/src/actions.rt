@@ -55,7 +55,7 @@ fn check_action_binding(e: Enclave, i: u32, standard: bool, binding: MaybeBindin
 fn check_action_row(e: Enclave, i: u32, row: ActionImage, previous_end: u64) -> Outcome
     ensures { result ≡ first (action_row (image_of e.entry) i (action_part row) previous_end) }
 {
-    let scope = check_scope_ref(e, ActionImage::TABLE, i, field::SCOPE, row.scope);
+    let scope = check_scope_ref(e.starts, ActionImage::TABLE, i, field::SCOPE, row.scope);
     let Found::Row(_) = scope else {
         return scope.refused();
     };
@@ -69,7 +69,7 @@ fn check_action_row(e: Enclave, i: u32, row: ActionImage, previous_end: u64) -> 
         return binding;
     };
     check_enclave_range(
-        e,
+        e.starts,
         ActionImage::TABLE,
         i,
         field::TRIGGERS,

@@ -36,7 +36,7 @@ pub fn check_binding(
 ) -> Outcome
     ensures { let m = image_of e.entry in result ≡ first (binding_checks m.rows m.bindings table index field kind key.0) }
 {
-    let found = check_binding_ref(e, table, index, field, key);
+    let found = check_binding_ref(e.starts, table, index, field, key);
     let Found::Row(binding) = found else {
         return found.refused();
     };

@@ -30,12 +30,12 @@ fn check_port_row(e: Enclave, i: u32, row: PortImage, previous_end: u64) -> Outc
     let Outcome::Passed = binding else {
         return binding;
     };
-    let scope = check_scope_ref(e, PortImage::TABLE, i, field::SCOPE, row.scope);
+    let scope = check_scope_ref(e.starts, PortImage::TABLE, i, field::SCOPE, row.scope);
     let Found::Row(_) = scope else {
         return scope.refused();
     };
     check_enclave_range(
-        e,
+        e.starts,
         PortImage::TABLE,
         i,
         field::TRIGGERS,

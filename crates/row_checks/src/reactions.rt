@@ -63,11 +63,11 @@ fn wrong_owner(i: u32, field: u8) -> Outcome
 fn check_reaction_owner(e: Enclave, i: u32, row: ReactionImage) -> Outcome
     ensures { result ≡ first (reaction_owner_checks (image_of e.entry) i (reaction_part row)) }
 {
-    let found = check_reactor_ref(e, ReactionImage::TABLE, i, field::REACTOR, row.reactor);
+    let found = check_reactor_ref(e.starts, ReactionImage::TABLE, i, field::REACTOR, row.reactor);
     let Found::Row(reactor) = found else {
         return found.refused();
     };
-    let found = check_scope_ref(e, ReactionImage::TABLE, i, field::SCOPE, row.scope);
+    let found = check_scope_ref(e.starts, ReactionImage::TABLE, i, field::SCOPE, row.scope);
     let Found::Row(scope) = found else {
         return found.refused();
     };
@@ -97,7 +97,7 @@ fn check_effect(e: Enclave, i: u32, reactor: ReactorIndex, effect: MaybeModeEffe
         return Outcome::Passed;
     };
     let found = check_mode_ref(
-        e,
+        e.starts,
         ReactionImage::TABLE,
         i,
         field::MODE_EFFECT_TARGET,
@@ -118,7 +118,7 @@ fn check_reaction_ranges(e: Enclave, i: u32, row: ReactionImage, previous: React
 {
     let table = ReactionImage::TABLE;
     let uses = check_enclave_range(
-        e,
+        e.starts,
         table,
         i,
         field::USE_PORTS,
@@ -131,7 +131,7 @@ fn check_reaction_ranges(e: Enclave, i: u32, row: ReactionImage, previous: React
     };
     let target = ReactionEffectPort::TABLE;
     let effects = check_enclave_range(
-        e,
+        e.starts,
         table,
         i,
         field::EFFECT_PORTS,
@@ -143,7 +143,7 @@ fn check_reaction_ranges(e: Enclave, i: u32, row: ReactionImage, previous: React
         return effects;
     };
     let actions = check_enclave_range(
-        e,
+        e.starts,
         table,
         i,
         field::ACTIONS,
@@ -155,7 +155,7 @@ fn check_reaction_ranges(e: Enclave, i: u32, row: ReactionImage, previous: React
         return actions;
     };
     check_enclave_range(
-        e,
+        e.starts,
         table,
         i,
         field::ENABLED_MODES,

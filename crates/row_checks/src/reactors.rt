@@ -43,7 +43,7 @@ fn is_no_mode(mode: MaybeMode) -> bool
 fn check_root_scope(e: Enclave, i: u32, key: ScopeIndex) -> Outcome
     ensures { let m = image_of e.entry in result ≡ first (root_scope_checks m.rows m.scopes i key.0) }
 {
-    let found = check_scope_ref(e, ReactorImage::TABLE, i, field::ROOT_SCOPE, key);
+    let found = check_scope_ref(e.starts, ReactorImage::TABLE, i, field::ROOT_SCOPE, key);
     let Found::Row(root) = found else {
         return found.refused();
     };
@@ -65,7 +65,7 @@ fn check_initial_mode(e: Enclave, i: u32, modes: ModeSpan, initial: MaybeMode) -
     let MaybeMode::Mode(key) = initial else {
         return Outcome::Passed;
     };
-    let found = check_mode_ref(e, ReactorImage::TABLE, i, field::INITIAL_MODE, key);
+    let found = check_mode_ref(e.starts, ReactorImage::TABLE, i, field::INITIAL_MODE, key);
     let Found::Row(mode) = found else {
         return found.refused();
     };
@@ -122,7 +122,7 @@ fn check_reactor_row(e: Enclave, i: u32, row: ReactorImage, previous_end: u64) -
         return scope;
     };
     let span = check_enclave_span(
-        e,
+        e.starts,
         ReactorImage::TABLE,
         i,
         field::MODES,

@@ -41,6 +41,16 @@ impl LevelReactionImage {
         }
     }
 
+    // The entry of record n; the empty one where the pack ends before it.
+    pub fn at(pack: Pack, n: usize) -> Self
+        ensures { result ≡ level_at pack.entry.bytes.now n }
+    {
+        if pack.records() <= n {
+            return Self::empty();
+        }
+        Self::inside(pack, n)
+    }
+
     fn inside(pack: Pack, n: usize) -> Self
         requires { n < length pack.bytes.now / 64 }
         ensures { result ≡ level_at pack.entry.bytes.now n }
@@ -81,6 +91,16 @@ impl LifecycleReactionImage {
             reaction: LevelReactionImage::empty(),
             action: ActionIndex(0),
         }
+    }
+
+    // The entry of record n; the empty one where the pack ends before it.
+    pub fn at(pack: Pack, n: usize) -> Self
+        ensures { result ≡ lifecycle_at pack.entry.bytes.now n }
+    {
+        if pack.records() <= n {
+            return Self::empty();
+        }
+        Self::inside(pack, n)
     }
 
     fn inside(pack: Pack, n: usize) -> Self

@@ -69,7 +69,7 @@ fn check_member_ranges(e: Enclave, i: u32, row: ScopeImage, ends: ScopeEnds) -> 
     ensures { let m = image_of e.entry in result ≡ first (member_range_checks m.rows i row ends) }
 {
     let descendants = check_enclave_range(
-        e,
+        e.starts,
         ScopeImage::TABLE,
         i,
         field::DESCENDANTS,
@@ -81,7 +81,7 @@ fn check_member_ranges(e: Enclave, i: u32, row: ScopeImage, ends: ScopeEnds) -> 
         return descendants;
     };
     let actions = check_enclave_range(
-        e,
+        e.starts,
         ScopeImage::TABLE,
         i,
         field::LOGICAL_ACTIONS,
@@ -93,7 +93,7 @@ fn check_member_ranges(e: Enclave, i: u32, row: ScopeImage, ends: ScopeEnds) -> 
         return actions;
     };
     check_enclave_range(
-        e,
+        e.starts,
         ScopeImage::TABLE,
         i,
         field::TIMER_STARTUPS,
@@ -109,7 +109,7 @@ fn check_reaction_ranges(e: Enclave, i: u32, row: ScopeImage, ends: ScopeEnds) -
     ensures { let m = image_of e.entry in result ≡ first (reaction_range_checks m.rows i row ends) }
 {
     let reset = check_enclave_range(
-        e,
+        e.starts,
         ScopeImage::TABLE,
         i,
         field::RESET_REACTIONS,
@@ -121,7 +121,7 @@ fn check_reaction_ranges(e: Enclave, i: u32, row: ScopeImage, ends: ScopeEnds) -
         return reset;
     };
     let startup = check_enclave_range(
-        e,
+        e.starts,
         ScopeImage::TABLE,
         i,
         field::STARTUP_REACTIONS,
@@ -133,7 +133,7 @@ fn check_reaction_ranges(e: Enclave, i: u32, row: ScopeImage, ends: ScopeEnds) -
         return startup;
     };
     check_enclave_range(
-        e,
+        e.starts,
         ScopeImage::TABLE,
         i,
         field::SHUTDOWN_REACTIONS,

@@ -20,7 +20,7 @@ pub fn check_parent(e: Enclave, i: u32, parent: MaybeScope) -> Outcome
     let MaybeScope::Scope(key) = parent else {
         return Outcome::Passed;
     };
-    let found = check_scope_ref(e, ScopeImage::TABLE, i, field::PARENT, key);
+    let found = check_scope_ref(e.starts, ScopeImage::TABLE, i, field::PARENT, key);
     let Found::Row(_) = found else {
         return found.refused();
     };
@@ -34,7 +34,7 @@ pub fn check_scope_mode(e: Enclave, i: u32, reactor: ReactorIndex, mode: MaybeMo
     let MaybeMode::Mode(key) = mode else {
         return Outcome::Passed;
     };
-    let found = check_mode_ref(e, ScopeImage::TABLE, i, field::MODE, key);
+    let found = check_mode_ref(e.starts, ScopeImage::TABLE, i, field::MODE, key);
     let Found::Row(owner) = found else {
         return found.refused();
     };
@@ -54,7 +54,7 @@ pub fn check_scope_mode(e: Enclave, i: u32, reactor: ReactorIndex, mode: MaybeMo
 pub fn check_scope_owner(e: Enclave, i: u32, row: ScopeImage) -> Outcome
     ensures { result ≡ first (scope_owner_checks (image_of e.entry) i row) }
 {
-    let found = check_reactor_ref(e, ScopeImage::TABLE, i, field::REACTOR, row.reactor);
+    let found = check_reactor_ref(e.starts, ScopeImage::TABLE, i, field::REACTOR, row.reactor);
     let Found::Row(_) = found else {
         return found.refused();
     };

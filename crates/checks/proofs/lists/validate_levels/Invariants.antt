@@ -4,6 +4,6 @@ use Rattle.checks.specs.Lists.{level_checks}
 use Rattle.checks.proofs.lists.validate_levels.Given as goal
 
 abbrev pub invariant-loop-k : goal.invariant-loop-k
-invariant-loop-k g l =
+invariant-loop-k l =
     let m = image_of l.e in
-    Remaining (level_checks m.rows m.reactions m.levels g.row.T l.range.start) l.k l.range.len
+    Remaining (level_checks m.rows m.reactions m.levels l.table l.range.start) l.k l.range.len

@@ -4,6 +4,6 @@ use Rattle.checks.specs.Lists.{lifecycle_checks}
 use Rattle.checks.proofs.lists.validate_lifecycle.Given as goal
 
 abbrev pub invariant-loop-k : goal.invariant-loop-k
-invariant-loop-k g l =
+invariant-loop-k l =
     let m = image_of l.e in
-    Remaining (lifecycle_checks m.rows m.reactions m.lifecycles g.row.T l.range.start) l.k l.range.len
+    Remaining (lifecycle_checks m.rows m.reactions m.lifecycles l.table l.range.start) l.k l.range.len
