@@ -103,5 +103,5 @@ module _ (p batch house : List ℕ) where
   unfolding enclave_answer image_answer image_result
   packed_answer a e d = rw (← e, d) (numbers-of (first (enclave_checks (pack_image p batch house))) (links (pack_image p batch house)))
 
-pub same_image : (p q batch b house h s t : List ℕ) → q ≡ p → b ≡ batch → h ≡ house → t ≡ s → image q b h t 0 ≡ image p batch house s 0
-same_image p q batch b house h s t e f g k = rw (e, f, g, k) refl
+pub same_image : (p q batch b house h s t : List ℕ) (n : ℕ) → q ≡ p → b ≡ batch → h ≡ house → t ≡ s → n ≡ 0 → image q b h t n ≡ image p batch house s 0
+same_image p q batch b house h s t n e f g k o = rw (e, f, g, k, o) refl

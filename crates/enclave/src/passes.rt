@@ -9,12 +9,13 @@ use answers::{Outcome, field, kind};
 use checks::identities::validate_id;
 use checks::refs::{check_enclave_len, check_reactor_ref};
 use list_checks::level_lists::{
-    check_action_triggers, check_level_entries, check_lifecycle_entries, check_port_triggers,
-    check_scope_lists, check_shutdown_reactions,
+    check_level_entries, check_lifecycle_entries, check_lists_of_scopes, check_shutdown_reactions,
+    check_triggers_of_actions, check_triggers_of_ports,
 };
 use list_checks::list_tables::{
-    check_action_entries, check_enabled_modes, check_mode_entries, check_port_entries,
-    check_scope_entries, check_shutdown_actions, check_startup_entries,
+    check_descendants, check_effect_ports, check_logical_actions, check_modes_of_reactions,
+    check_reaction_actions, check_reaction_modes, check_shutdown_actions, check_startup_actions,
+    check_timer_startup_actions, check_timer_startups, check_use_ports,
 };
 use list_checks::routes::{check_binding_ids, check_routes};
 use row_checks::actions::check_actions;
@@ -25,9 +26,7 @@ use row_checks::reactors::check_reactors;
 use schema::index::ReactorIndex;
 use schema::lent::Enclave;
 use schema::lists::{
-    ReactionAction, ReactionEffectPort, ReactionMode, ReactionTrigger, ReactionUsePort,
-    ScopeDescendant, ScopeLogicalAction, ScopeResetReaction, ScopeShutdownReaction,
-    ScopeStartupReaction, ScopeTimerStartup, StartupAction, TimerStartupAction,
+    ReactionTrigger, ScopeResetReaction, ScopeShutdownReaction, ScopeStartupReaction,
 };
 use schema::rows::EnclaveImage;
 
@@ -83,7 +82,8 @@ fn check_root(e: Enclave) -> Outcome
 fn check_enclave_id(e: Enclave) -> Outcome
     ensures { result ≡ first (run (enclave_id_checks (image_of e.entry)) 0 1) }
 {
-    validate_id(e, kind::ENCLAVE, 0, EnclaveImage::at(e.pack, e.own).enclave_id)
+    let id = EnclaveImage::at(e.pack, e.own).enclave_id;
+    validate_id(e.batch, e.house, kind::ENCLAVE, 0, id)
 }
 
 // Table lengths, root reactor, identity.
@@ -143,31 +143,31 @@ pub fn check_rows(e: Enclave) -> Outcome
 fn check_reaction_lists(e: Enclave) -> Outcome
     ensures { result ≡ first (checks_of (image_of e.entry) reaction_list_passes) }
 {
-    let action_triggers = check_action_triggers(e);
+    let action_triggers = check_triggers_of_actions(e);
     let Outcome::Passed = action_triggers else {
         return action_triggers;
     };
-    let port_triggers = check_port_triggers(e);
+    let port_triggers = check_triggers_of_ports(e);
     let Outcome::Passed = port_triggers else {
         return port_triggers;
     };
-    let use_ports = check_port_entries::<{ ReactionUsePort::TABLE }>(e);
+    let use_ports = check_use_ports(e);
     let Outcome::Passed = use_ports else {
         return use_ports;
     };
-    let effect_ports = check_port_entries::<{ ReactionEffectPort::TABLE }>(e);
+    let effect_ports = check_effect_ports(e);
     let Outcome::Passed = effect_ports else {
         return effect_ports;
     };
-    let actions = check_action_entries::<{ ReactionAction::TABLE }>(e);
+    let actions = check_reaction_actions(e);
     let Outcome::Passed = actions else {
         return actions;
     };
-    let modes = check_mode_entries::<{ ReactionMode::TABLE }>(e);
+    let modes = check_reaction_modes(e);
     let Outcome::Passed = modes else {
         return modes;
     };
-    check_enabled_modes(e)
+    check_modes_of_reactions(e)
 }
 
 // The lists of scopes.
@@ -175,19 +175,19 @@ fn check_reaction_lists(e: Enclave) -> Outcome
 fn check_scope_tables(e: Enclave) -> Outcome
     ensures { result ≡ first (checks_of (image_of e.entry) scope_list_passes) }
 {
-    let descendants = check_scope_entries::<{ ScopeDescendant::TABLE }>(e);
+    let descendants = check_descendants(e);
     let Outcome::Passed = descendants else {
         return descendants;
     };
-    let actions = check_action_entries::<{ ScopeLogicalAction::TABLE }>(e);
+    let actions = check_logical_actions(e);
     let Outcome::Passed = actions else {
         return actions;
     };
-    let timers = check_startup_entries::<{ ScopeTimerStartup::TABLE }>(e);
+    let timers = check_timer_startups(e);
     let Outcome::Passed = timers else {
         return timers;
     };
-    check_scope_lists(e)
+    check_lists_of_scopes(e)
 }
 
 // Every entry of the tables that ranges lead to.
@@ -195,19 +195,19 @@ fn check_scope_tables(e: Enclave) -> Outcome
 fn check_entries(e: Enclave) -> Outcome
     ensures { result ≡ first (checks_of (image_of e.entry) entry_passes) }
 {
-    let triggers = check_level_entries::<{ ReactionTrigger::TABLE }>(e);
+    let triggers = check_level_entries(e, ReactionTrigger::TABLE);
     let Outcome::Passed = triggers else {
         return triggers;
     };
-    let resets = check_level_entries::<{ ScopeResetReaction::TABLE }>(e);
+    let resets = check_level_entries(e, ScopeResetReaction::TABLE);
     let Outcome::Passed = resets else {
         return resets;
     };
-    let startups = check_lifecycle_entries::<{ ScopeStartupReaction::TABLE }>(e);
+    let startups = check_lifecycle_entries(e, ScopeStartupReaction::TABLE);
     let Outcome::Passed = startups else {
         return startups;
     };
-    check_lifecycle_entries::<{ ScopeShutdownReaction::TABLE }>(e)
+    check_lifecycle_entries(e, ScopeShutdownReaction::TABLE)
 }
 
 // The lists of the enclave itself, routes and bindings.
@@ -215,11 +215,11 @@ fn check_entries(e: Enclave) -> Outcome
 fn check_enclave_lists(e: Enclave) -> Outcome
     ensures { result ≡ first (checks_of (image_of e.entry) enclave_list_passes) }
 {
-    let startups = check_startup_entries::<{ StartupAction::TABLE }>(e);
+    let startups = check_startup_actions(e);
     let Outcome::Passed = startups else {
         return startups;
     };
-    let timers = check_startup_entries::<{ TimerStartupAction::TABLE }>(e);
+    let timers = check_timer_startup_actions(e);
     let Outcome::Passed = timers else {
         return timers;
     };

@@ -6,10 +6,10 @@ ghost use Rattle.checks.specs.Lists.{after_first};
 ghost use Rattle.schema.specs.Tables.{rows_of};
 ghost use Rattle.list_checks.specs.Routes.{route_order_checks, route_row, route_checks, binding_id_row, binding_id_checks};
 
+use crate::list_tables::check_port;
 use answers::{Outcome, Refusal, field, kind};
 use checks::Found;
 use checks::identities::{validate_text, validate_text_order};
-use checks::refs::check_port_ref;
 use identity::compare::compare_bytes;
 use identity::place::identity_text;
 use identity::{ByteOrder, IdentityPlace};
@@ -75,7 +75,13 @@ fn check_route(
     let Outcome::Passed = order else {
         return order;
     };
-    check_port_ref(e.starts, RouteImage::TABLE, i, field::LOCAL_PORT, route.local_port).refused()
+    check_port(
+        e.starts,
+        RouteImage::TABLE,
+        i,
+        field::LOCAL_PORT,
+        route.local_port,
+    )
 }
 
 // Every route. Row 0, which is compared with none, stands for the row before itself.

@@ -63,7 +63,13 @@ fn wrong_owner(i: u32, field: u8) -> Outcome
 fn check_reaction_owner(e: Enclave, i: u32, row: ReactionImage) -> Outcome
     ensures { result ≡ first (reaction_owner_checks (image_of e.entry) i (reaction_part row)) }
 {
-    let found = check_reactor_ref(e.starts, ReactionImage::TABLE, i, field::REACTOR, row.reactor);
+    let found = check_reactor_ref(
+        e.starts,
+        ReactionImage::TABLE,
+        i,
+        field::REACTOR,
+        row.reactor,
+    );
     let Found::Row(reactor) = found else {
         return found.refused();
     };
@@ -195,4 +201,11 @@ pub fn check_reactions(e: Enclave) -> Outcome
         previous = ends_of(row);
     }
     Outcome::Passed
+}
+
+// The rows one by one.
+pub fn check_each(e: Enclave) -> Outcome
+    ensures { let m = image_of e.entry in result ≡ first (run (reaction_checks m) 0 (m.rows 5)) }
+{
+    check_reactions(e)
 }

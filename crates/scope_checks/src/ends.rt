@@ -3,14 +3,16 @@
 
 ghost use Rattle.std.specs.Prelude.{◌≡◌};
 ghost use Rattle.answers.specs.Checks.{first};
+ghost use Rattle.schema.specs.Tables.{rows_of, IsRising};
 ghost use Rattle.checks.specs.Image.{image_of};
-ghost use Rattle.scope_checks.specs.Ends.{ends_of, ends_after, no_ends, member_range_checks, reaction_range_checks};
+ghost use Rattle.scope_checks.specs.Ends.{ends_of, ends_after, no_ends, member_range_checks, reaction_range_checks, scope_range_checks};
 ghost use Rattle.scope_checks.specs.Scopes.{scope_row_checks};
 
 use crate::owners::check_scope_owner;
 use answers::{Outcome, field};
 use checks::refs::check_enclave_range;
-use schema::lent::Enclave;
+use schema::index::ScopeIndex;
+use schema::lent::{Enclave, TableStarts};
 use schema::lists::{
     ScopeDescendant, ScopeLogicalAction, ScopeResetReaction, ScopeShutdownReaction,
     ScopeStartupReaction, ScopeTimerStartup,
@@ -30,9 +32,9 @@ pub struct ScopeEnds {
 
 // A row's answer, and the ends after it: as they were where the row is refused.
 #[derive(Clone, Copy)]
-pub struct MovedEnds {
+pub struct EndsAnswer {
     pub ends: ScopeEnds,
-    pub outcome: Outcome,
+    pub answer: Outcome,
 }
 
 // The ends before the first row.
@@ -65,11 +67,12 @@ fn ends_of(row: ScopeImage) -> ScopeEnds
 
 // The ranges of scopes and actions of row i.
 #[tactic(auto, using(answers::proofs::Laws::list_laws), unfolding(crate::specs::Ends::member_range_checks))]
-fn check_member_ranges(e: Enclave, i: u32, row: ScopeImage, ends: ScopeEnds) -> Outcome
-    ensures { let m = image_of e.entry in result ≡ first (member_range_checks m.rows i row ends) }
+fn check_member_ranges(starts: &TableStarts, i: u32, row: ScopeImage, ends: ScopeEnds) -> Outcome
+    requires { IsRising starts.now }
+    ensures { result ≡ first (member_range_checks (rows_of starts.now) i row ends) }
 {
     let descendants = check_enclave_range(
-        e.starts,
+        starts,
         ScopeImage::TABLE,
         i,
         field::DESCENDANTS,
@@ -81,7 +84,7 @@ fn check_member_ranges(e: Enclave, i: u32, row: ScopeImage, ends: ScopeEnds) -> 
         return descendants;
     };
     let actions = check_enclave_range(
-        e.starts,
+        starts,
         ScopeImage::TABLE,
         i,
         field::LOGICAL_ACTIONS,
@@ -93,7 +96,7 @@ fn check_member_ranges(e: Enclave, i: u32, row: ScopeImage, ends: ScopeEnds) -> 
         return actions;
     };
     check_enclave_range(
-        e.starts,
+        starts,
         ScopeImage::TABLE,
         i,
         field::TIMER_STARTUPS,
@@ -105,11 +108,12 @@ fn check_member_ranges(e: Enclave, i: u32, row: ScopeImage, ends: ScopeEnds) -> 
 
 // The ranges of reactions of row i.
 #[tactic(auto, using(answers::proofs::Laws::list_laws), unfolding(crate::specs::Ends::reaction_range_checks))]
-fn check_reaction_ranges(e: Enclave, i: u32, row: ScopeImage, ends: ScopeEnds) -> Outcome
-    ensures { let m = image_of e.entry in result ≡ first (reaction_range_checks m.rows i row ends) }
+fn check_reaction_ranges(starts: &TableStarts, i: u32, row: ScopeImage, ends: ScopeEnds) -> Outcome
+    requires { IsRising starts.now }
+    ensures { result ≡ first (reaction_range_checks (rows_of starts.now) i row ends) }
 {
     let reset = check_enclave_range(
-        e.starts,
+        starts,
         ScopeImage::TABLE,
         i,
         field::RESET_REACTIONS,
@@ -121,7 +125,7 @@ fn check_reaction_ranges(e: Enclave, i: u32, row: ScopeImage, ends: ScopeEnds) -
         return reset;
     };
     let startup = check_enclave_range(
-        e.starts,
+        starts,
         ScopeImage::TABLE,
         i,
         field::STARTUP_REACTIONS,
@@ -133,7 +137,7 @@ fn check_reaction_ranges(e: Enclave, i: u32, row: ScopeImage, ends: ScopeEnds) -
         return startup;
     };
     check_enclave_range(
-        e.starts,
+        starts,
         ScopeImage::TABLE,
         i,
         field::SHUTDOWN_REACTIONS,
@@ -143,35 +147,57 @@ fn check_reaction_ranges(e: Enclave, i: u32, row: ScopeImage, ends: ScopeEnds) -
     )
 }
 
-// Row i against the running ends: its references, then its ranges.
-#[tactic(auto, using(answers::proofs::Laws::list_laws), unfolding(crate::specs::Scopes::scope_row_checks))]
-fn check_row(e: Enclave, i: u32, row: ScopeImage, ends: ScopeEnds) -> Outcome
-    ensures { result ≡ first (scope_row_checks (image_of e.entry) i row ends) }
+// The ranges of row i, in their order.
+#[tactic(auto, using(answers::proofs::Laws::list_laws))]
+fn check_scope_ranges(starts: &TableStarts, i: u32, row: ScopeImage, ends: ScopeEnds) -> Outcome
+    requires { IsRising starts.now }
+    ensures { result ≡ first (scope_range_checks (rows_of starts.now) i row ends) }
 {
-    let owner = check_scope_owner(e, i, row);
-    let Outcome::Passed = owner else {
-        return owner;
-    };
-    let members = check_member_ranges(e, i, row, ends);
+    let members = check_member_ranges(starts, i, row, ends);
     let Outcome::Passed = members else {
         return members;
     };
-    check_reaction_ranges(e, i, row, ends)
+    check_reaction_ranges(starts, i, row, ends)
 }
 
-// Row i by value, with the ends that come after it.
-pub fn moved_ends(e: Enclave, i: u32, row: ScopeImage, ends: ScopeEnds) -> MovedEnds
-    ensures answer { result.outcome ≡ first (scope_row_checks (image_of e.entry) i row ends) }
-    ensures moved { result.ends ≡ ends_after result.outcome row ends }
+// The ranges of row i against the running ends, with the ends that come after it.
+pub fn moved_ends(starts: &TableStarts, i: u32, row: ScopeImage, ends: ScopeEnds) -> EndsAnswer
+    requires { IsRising starts.now }
+    ensures answer { result.answer ≡ first (scope_range_checks (rows_of starts.now) i row ends) }
+    ensures moved { result.ends ≡ ends_after result.answer row ends }
 {
-    let outcome = check_row(e, i, row, ends);
-    let Outcome::Passed = outcome else {
-        return MovedEnds { ends, outcome };
+    let answer = check_scope_ranges(starts, i, row, ends);
+    let Outcome::Passed = answer else {
+        return EndsAnswer { ends, answer };
     };
-    MovedEnds {
+    EndsAnswer {
         ends: ends_of(row),
-        outcome,
+        answer,
     }
+}
+
+// Row i by value: its references, then its ranges.
+#[tactic(auto, using(answers::proofs::Laws::list_laws), unfolding(crate::specs::Scopes::scope_row_checks))]
+pub fn moved_row(e: Enclave, i: u32, row: ScopeImage, ends: ScopeEnds) -> EndsAnswer
+    ensures answer { result.answer ≡ first (scope_row_checks (image_of e.entry) i row ends) }
+    ensures moved { result.ends ≡ ends_after result.answer row ends }
+{
+    let owner = check_scope_owner(e, i, row);
+    let Outcome::Passed = owner else {
+        return EndsAnswer {
+            ends,
+            answer: owner,
+        };
+    };
+    moved_ends(e.starts, i, row, ends)
+}
+
+// Row i as it stands in the pack, by value.
+pub fn scope_row_by(e: Enclave, i: u32, ends: ScopeEnds) -> EndsAnswer
+    ensures answer { let m = image_of e.entry in result.answer ≡ first (scope_row_checks m i (m.scopes i) ends) }
+    ensures moved { result.ends ≡ ends_after result.answer ((image_of e.entry).scopes i) ends }
+{
+    moved_row(e, i, ScopeImage::row(e, ScopeIndex(i)), ends)
 }
 
 // Row i, with the ends moved on where they stand.
@@ -179,7 +205,7 @@ pub fn check_scope_row(e: Enclave, i: u32, row: ScopeImage, ends: &mut ScopeEnds
     ensures answer { result ≡ first (scope_row_checks (image_of e.entry) i row ends.old) }
     ensures moved { ends.new ≡ ends_after result row ends.old }
 {
-    let moved = moved_ends(e, i, row, *ends);
+    let moved = moved_row(e, i, row, *ends);
     *ends = moved.ends;
-    moved.outcome
+    moved.answer
 }

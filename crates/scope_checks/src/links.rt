@@ -38,9 +38,16 @@ fn depth_of(depths: &[u32], scope: ScopeIndex) -> u32
     0
 }
 
-// The links of a scope: parents followed until none, or until as many as there are scopes.
+// The parent of a scope.
+pub fn parent_of(e: Enclave, scope: ScopeIndex) -> MaybeScope
+    ensures { result ≡ parents (image_of e.entry) scope.0 }
+{
+    ScopeImage::row(e, scope).parent
+}
+
+// The links of a scope: parents followed until none, or until as many as there are scopes. It ends at the first whose depth is known.
 #[tactic(auto, using(crate::proofs::LinksLaws::followed_laws), unfolding(crate::specs::Depths::Known))]
-pub fn links_of(e: Enclave, depths: &[u32], scope: ScopeIndex) -> u32
+fn links_by(e: Enclave, depths: &[u32], scope: ScopeIndex) -> u32
     requires { Known (image_of e) depths.now }
     ensures { let m = image_of e.entry in result ≡ links_of (parents m) (m.rows 7) scope.0 }
 {
@@ -51,12 +58,20 @@ pub fn links_of(e: Enclave, depths: &[u32], scope: ScopeIndex) -> u32
         if depth != 0 {
             return followed + (depth - 1).min(scopes - followed);
         }
-        let MaybeScope::Scope(parent) = ScopeImage::row(e, at).parent else {
+        let MaybeScope::Scope(parent) = parent_of(e, at) else {
             return followed;
         };
         at = parent;
     }
     scopes
+}
+
+// The same where no depth is known.
+#[tactic(auto, using(crate::proofs::DepthLaws::known_empty))]
+pub fn links_of(e: Enclave, scope: ScopeIndex) -> u32
+    ensures { let m = image_of e.entry in result ≡ links_of (parents m) (m.rows 7) scope.0 }
+{
+    links_by(e, &[0u32; 0], scope)
 }
 
 // Writes the depth of a scope and those of the scopes above it, up to the first that is known.
@@ -69,7 +84,7 @@ fn settle(e: Enclave, depths: &mut [u32], mut scope: ScopeIndex, mut depth: u32)
 {
     while (scope.0 as usize) < depths.len() && depths[scope.0 as usize] == 0 {
         depths[scope.0 as usize] = depth;
-        let MaybeScope::Scope(parent) = ScopeImage::row(e, scope).parent else {
+        let MaybeScope::Scope(parent) = parent_of(e, scope) else {
             return;
         };
         scope = parent;
@@ -86,7 +101,7 @@ fn follow_parents(e: Enclave, depths: &mut [u32]) -> Parents
     let scopes = e.rows(ScopeImage::TABLE);
     let mut links: u64 = 0;
     for i in 0..scopes {
-        let followed = links_of(e, depths, ScopeIndex(i));
+        let followed = links_by(e, depths, ScopeIndex(i));
         if followed >= scopes {
             return Parents::Refused(Refusal::ScopeParentCycle { scope: i });
         }
@@ -109,6 +124,13 @@ fn follow_with<const N: usize>(e: Enclave) -> Parents
 // The parents of every scope: the links followed, or the first scope whose parents do not end.
 pub fn check_parents(e: Enclave) -> Parents
     ensures { let m = image_of e.entry in result ≡ parents_answer (first (run (cycle_checks m) 0 (m.rows 7))) (links m) }
+{
+    check_parents_once(e)
+}
+
+// Each scope's links found once, with room for as many depths as there are scopes.
+pub fn check_parents_once(e: Enclave) -> Parents
+    ensures { result ≡ all_parents (image_of e.entry) }
 {
     let scopes = e.rows(ScopeImage::TABLE) as usize;
     if scopes <= FEW {

@@ -3,6 +3,7 @@
 
 ghost use Rattle.std.specs.Prelude.{◌≡◌};
 ghost use Rattle.answers.specs.Checks.{first};
+ghost use Rattle.schema.specs.Tables.{rows_of, IsRising};
 ghost use Rattle.checks.specs.Image.{image_of};
 ghost use Rattle.scope_checks.specs.Scopes.{parent_checks, scope_mode_checks, scope_owner_checks};
 
@@ -10,17 +11,18 @@ use answers::{Outcome, Refusal, field};
 use checks::Found;
 use checks::refs::{check_mode_ref, check_reactor_ref, check_scope_ref};
 use schema::index::{MaybeMode, MaybeScope, ReactorIndex};
-use schema::lent::Enclave;
+use schema::lent::{Enclave, TableStarts};
 use schema::rows::{ModeImage, ScopeImage};
 
 // The parent, where there is one, is there.
-pub fn check_parent(e: Enclave, i: u32, parent: MaybeScope) -> Outcome
-    ensures { let m = image_of e.entry in result ≡ first (parent_checks m.rows i parent) }
+pub fn check_parent(starts: &TableStarts, i: u32, parent: MaybeScope) -> Outcome
+    requires { IsRising starts.now }
+    ensures { result ≡ first (parent_checks (rows_of starts.now) i parent) }
 {
     let MaybeScope::Scope(key) = parent else {
         return Outcome::Passed;
     };
-    let found = check_scope_ref(e.starts, ScopeImage::TABLE, i, field::PARENT, key);
+    let found = check_scope_ref(starts, ScopeImage::TABLE, i, field::PARENT, key);
     let Found::Row(_) = found else {
         return found.refused();
     };
@@ -58,7 +60,7 @@ pub fn check_scope_owner(e: Enclave, i: u32, row: ScopeImage) -> Outcome
     let Found::Row(_) = found else {
         return found.refused();
     };
-    let parent = check_parent(e, i, row.parent);
+    let parent = check_parent(e.starts, i, row.parent);
     let Outcome::Passed = parent else {
         return parent;
     };

@@ -25,3 +25,10 @@ pub fn check_scopes(e: Enclave) -> Outcome
     }
     Outcome::Passed
 }
+
+// The rows one by one.
+pub fn check_each(e: Enclave) -> Outcome
+    ensures { let m = image_of e.entry in result ≡ first (run (scope_checks m) 0 (m.rows 7)) }
+{
+    check_scopes(e)
+}

@@ -1,7 +1,7 @@
 use Rattle.std.proofs.Common.{◌≡◌, ◌+◌, ◌-◌}
 use Rattle.checks.specs.Image.{image_of}
 use Rattle.scope_checks.specs.Links.{followed, links_of, parents}
-use Rattle.scope_checks.proofs.links.links_of.Given as goal
+use Rattle.scope_checks.proofs.links.links_by.Given as goal
 
 abbrev pub invariant-loop-followed : goal.invariant-loop-followed
 invariant-loop-followed l =
