@@ -106,7 +106,7 @@ module _ (p q : List ℕ) (d : DifferInStorage p q) where
         go false e = let f = starts_from p 1 2 (omega arith) in omega arith
 
     pub image-same :
-        in_tables (image q batch house (table_starts p 1)) ≡ with_bounds (in_tables (image p batch house (table_starts p 1))) (state_bound q 0) (action_bound q 0)
+        in_tables (image q batch house (table_starts p 1) 0) ≡ with_bounds (in_tables (image p batch house (table_starts p 1) 0)) (state_bound q 0) (action_bound q 0)
     unfolding reactor_at action_at port_at reaction_at mode_at scope_at index_at level_at startup_at lifecycle_at route_at binding_at
     image-same e =
         record {
