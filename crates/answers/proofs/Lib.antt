@@ -3,3 +3,4 @@ pub mod Loops
 pub mod Looser
 pub mod Slots
 pub mod RefusalNumbers
+pub mod Tests

@@ -1,7 +1,7 @@
 // The record of a row: the table number, the bits and kinds, the fields, and zeros after them.
 #![tactic(auto, unfolding(crate::specs::Records::federate_record, crate::specs::Records::enclave_record, crate::specs::Records::reactor_record, crate::specs::Records::action_record, crate::specs::Records::port_record, crate::specs::Records::reaction_record, crate::specs::Records::mode_record, crate::specs::Records::scope_record, crate::specs::Records::trigger_record, crate::specs::Records::route_record, crate::specs::Records::binding_record))]
 
-ghost use Rattle.std.specs.Prelude.{◌≡◌, [], ◌+◌, ◌≤◌, ◌++◌, length, take, drop, sum_by};
+ghost use Rattle.std.specs.Prelude.{◌≡◌, [], ◌+◌, ◌*◌, ◌≤◌, ◌++◌, length, take, drop, sum_by};
 ghost use Rattle.cases.specs.Records.{width, field_bytes, record_of, federate_record, enclave_record, reactor_record, action_record, port_record, reaction_record, mode_record, scope_record, trigger_record, route_record, binding_record};
 
 use crate::fields;
@@ -43,6 +43,14 @@ impl Field {
             D(n) => bytes[at..at + 8].copy_from_slice(&n.to_be_bytes()),
         }
     }
+}
+
+// Puts a record into a pack as record n. All other bytes are as before.
+pub fn put(pack: &mut [u8], n: usize, bytes: Record)
+    requires { n * 64 + 64 ≤ length pack.old }
+    ensures { pack.new ≡ take (n * 64) pack.old ++ (bytes ++ drop (n * 64 + 64) pack.old) }
+{
+    pack[n * 64..n * 64 + 64].copy_from_slice(&bytes);
 }
 
 // A record with its bytes 0 to 2.

@@ -1,5 +1,5 @@
 -- Whether an entry passes does not rest on the table and the index that it is shown by. Assumes nothing.
-use Rattle.std.proofs.Common.{ℕ, Bool, true, false, ◌&&◌, List, [], ◌∷◌, ◌++◌, ◌≡◌, refl, ltb, eqb}
+use Rattle.std.proofs.Common.{ℕ, Bool, true, false, ◌&&◌, [], ◌∷◌, ◌++◌, ◌≡◌, refl, ltb, eqb}
 use Rattle.answers.specs.declared.Refusal.{Refusal}
 use Rattle.answers.specs.Checks.{need, first, is_passed}
 use Rattle.schema.specs.declared.lists.LevelReactionImage.{LevelReactionImage}

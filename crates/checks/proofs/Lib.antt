@@ -1,2 +1,3 @@
 -- What the proofs share.
 pub mod Entries
+pub mod Rows
