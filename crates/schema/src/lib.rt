@@ -5,4 +5,5 @@ pub mod fields;
 pub mod index;
 pub mod lent;
 pub mod lists;
+pub mod number;
 pub mod rows;
