@@ -6,4 +6,6 @@ pub mod index;
 pub mod lent;
 pub mod lists;
 pub mod number;
+pub mod read;
+pub mod read_lists;
 pub mod rows;
