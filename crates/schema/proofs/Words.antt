@@ -9,9 +9,7 @@ words_of_two p o a b r e ea eb h =
     let second : r % 4294967296 ≡ b = omega arith in
     record { first = first ∙ ea; second = second ∙ eb }
 
-pub words_past : (p : List ℕ) (o r : ℕ) → r ≡ 0 → length p ≤ o → Words p o r
-words_past p o r e h =
-    let first : r / 4294967296 ≡ 0 = omega arith in
-    let second : r % 4294967296 ≡ 0 = omega arith in
+pub words_past : (p : List ℕ) (o : ℕ) → length p ≤ o → Words p o 0
+words_past p o h =
     let later : length p ≤ o + 4 = omega arith in
-    record { first = first ∙ sym (number_past p 4 o h); second = second ∙ sym (number_past p 4 (o + 4) later) }
+    record { first = sym (number_past p 4 o h); second = sym (number_past p 4 (o + 4) later) }

@@ -5,6 +5,7 @@ ghost use Rattle.schema.specs.Number.{number};
 ghost use Rattle.schema.specs.Tables.{start_of, rows_of, IsRising, EndsInside, tables};
 ghost use Rattle.schema.specs.Rows.{byte_of, bit_of, range, span, place};
 
+use crate::parts::byte_at;
 use crate::read::{byte_of, long_of, place_of, range_of, span_of, word_of};
 use identity::IdentityPlace;
 use range::{IndexSpan, SliceRange};
@@ -66,14 +67,10 @@ impl<'a> Pack<'a> {
     }
 
     // Whether record n is of a table; past the pack a record is all zeros.
-    #[tactic(auto, using(crate::proofs::Past::byte_past))]
     pub fn is_of(self, table: u8, n: usize) -> bool
         ensures { result ≡ is_of self.entry.bytes.now table n }
     {
-        if n < self.records() {
-            return self.byte(n, 0) == table;
-        }
-        table == 0
+        byte_at(self, n, 0) == table
     }
 
     // How many records of a table the pack has.

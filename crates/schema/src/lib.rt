@@ -6,6 +6,7 @@ pub mod index;
 pub mod lent;
 pub mod lists;
 pub mod number;
+pub mod parts;
 pub mod read;
 pub mod read_lists;
 pub mod rows;
