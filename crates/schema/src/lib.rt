@@ -1,4 +1,4 @@
-// The rows of a pack's tables: their types, and their readers by a lent pack and a record or row number.
+// The rows of a pack's tables: their types, and their readers by bytes or a lent pack and a record or row number.
 #![tactic(auto)]
 
 pub mod fields;

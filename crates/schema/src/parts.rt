@@ -1,4 +1,4 @@
-// Single fields of a record, by bytes or pack and record number. Those named `_of` ask that the bytes have the record; those named `_at` ask for a pack, and past it each number is 0.
+// Single fields of a record. Those named `_of` take bytes that have the record, those named `_at` a pack; past it each number is 0.
 ghost use Rattle.std.specs.Prelude.{◌≡◌, ◌+◌, ◌*◌, ◌/◌, ◌<◌, ◌≤◌, length};
 ghost use Rattle.schema.specs.Number.{number, Words};
 ghost use Rattle.schema.specs.Rows.{byte_of, enclave_at, reactor_at, action_at, port_at, reaction_at, mode_at, scope_at, lifecycle_at, route_at, binding_at};

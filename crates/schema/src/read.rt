@@ -1,4 +1,4 @@
-// Readers of records, by bytes or pack and record number. Those named `_of` ask that the bytes have the record; those named `_at` ask for a pack, and a record past it is the empty row.
+// Readers of tables 0 to 7, 23 and 24. Those named `_of` take bytes that have the record, those named `_at` a pack; past it is the empty row.
 #![tactic(auto, unfolding(crate::specs::Rows::federate_at, crate::specs::Rows::enclave_at, crate::specs::Rows::reactor_at, crate::specs::Rows::action_at, crate::specs::Rows::port_at, crate::specs::Rows::reaction_at, crate::specs::Rows::mode_at, crate::specs::Rows::scope_at, crate::specs::Rows::route_at, crate::specs::Rows::binding_at))]
 
 ghost use Rattle.std.specs.Prelude.{◌≡◌, ◌+◌, ◌*◌, ◌/◌, ◌%◌, ◌<◌, ◌≤◌, eqb, length};

@@ -1,4 +1,4 @@
-// Readers of the list tables' records. Those named `_of` take bytes that have the record; those named `_at` a pack, and a record past it is the empty row.
+// Readers of the list tables. Those named `_of` take bytes that have the record, those named `_at` a pack; past it is the empty row.
 #![tactic(auto, using(crate::proofs::Past::rows_past), unfolding(crate::specs::Rows::index_at, crate::specs::Rows::level_at, crate::specs::Rows::startup_at, crate::specs::Rows::lifecycle_at))]
 
 ghost use Rattle.std.specs.Prelude.{◌≡◌, ◌/◌, ◌<◌, length};
@@ -41,10 +41,7 @@ pub fn lifecycle_of(p: &[u8], n: usize) -> LifecycleReactionImage
     ensures { result ≡ lifecycle_at p.now n }
 {
     LifecycleReactionImage {
-        reaction: LevelReactionImage {
-            level: word_of(p, n, 4),
-            reaction: ReactionIndex(word_of(p, n, 8)),
-        },
+        reaction: level_of(p, n),
         action: ActionIndex(word_of(p, n, 12)),
     }
 }
