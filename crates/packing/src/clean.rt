@@ -6,7 +6,7 @@ ghost use Rattle.packing.specs.Clean.{zeros, kind_clean, clean, run_from};
 ghost use Rattle.packing.specs.Shape.{shape_of};
 
 use crate::shape::{Governed, Shape, shape_of};
-use schema::lent::{Pack, bit};
+use schema::lent::{Pack, has_bit};
 use schema::rows::{ActionImage, ReactionImage};
 
 // Whether the bytes of record n from byte `used` on, whole Ws, are zero. No branch among them.
@@ -55,7 +55,7 @@ fn kind_clean(pack: Pack, n: usize, table: u8) -> bool
     ensures { result ≡ kind_clean table pack.entry.bytes.now n }
 {
     let kind = pack.byte(n, 2);
-    let bit_1 = bit(pack.byte(n, 1), 1);
+    let bit_1 = has_bit(pack.byte(n, 1), 1);
     match table {
         ActionImage::TABLE => (kind == 2 || !bit_1) && (kind < 2 || bit_1 || pack.long(n, 16) == 0),
         ReactionImage::TABLE => bit_1 || kind == 0,
@@ -75,8 +75,8 @@ fn clean_by(pack: Pack, n: usize, table: u8, shape: Shape) -> bool
     let bits = pack.byte(n, 1);
     head_clean(shape, bits, pack.byte(n, 2), pack.byte(n, 3))
         && rest_zero(pack, n, shape.used)
-        && (bit(bits, 0) || field_zero(pack, n, shape.bit_0))
-        && (bit(bits, 1) || field_zero(pack, n, shape.bit_1))
+        && (has_bit(bits, 0) || field_zero(pack, n, shape.bit_0))
+        && (has_bit(bits, 1) || field_zero(pack, n, shape.bit_1))
         && kind_clean(pack, n, table)
 }
 

@@ -13,7 +13,7 @@ use answers::{Outcome, Refusal};
 use identity::IdentityPlace;
 use identity::place::{identity_text, place_inside};
 use identity::scan::is_utf8;
-use schema::lent::{PACK_LIMIT, Pack, TABLES, bit};
+use schema::lent::{PACK_LIMIT, Pack, TABLES, has_bit};
 
 const TEXT_LIMIT: usize = 65_536;
 
@@ -63,7 +63,7 @@ fn identity_at(pack: Pack, n: usize, j: u8) -> IdentityPlace
     requires named { j < (layout_of (byte_of pack.bytes.now n 0)).identities }
     ensures { result ≡ identity_at pack.entry.bytes.now n j }
 {
-    let house = bit(pack.byte(n, 1), u32::from(j));
+    let house = has_bit(pack.byte(n, 1), u32::from(j));
     pack.place(n, 4 + 8 * usize::from(j), house)
 }
 

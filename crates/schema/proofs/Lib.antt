@@ -1,3 +1,4 @@
 pub mod Counts
 pub mod Past
 pub mod Tables
+pub mod Words

@@ -5,6 +5,8 @@ ghost use Rattle.schema.specs.Number.{number};
 ghost use Rattle.schema.specs.Tables.{start_of, rows_of, IsRising, EndsInside, tables};
 ghost use Rattle.schema.specs.Rows.{byte_of, bit_of, range, span, place};
 
+use crate::parts::byte_at;
+use crate::read::{byte_of, long_of, place_of, range_of, span_of, word_of};
 use identity::IdentityPlace;
 use range::{IndexSpan, SliceRange};
 
@@ -49,7 +51,7 @@ pub fn long_at(p: &[u8], at: usize) -> u64
 }
 
 // Bit k of a byte, the lowest first.
-pub fn bit(b: u8, k: u32) -> bool
+pub fn has_bit(b: u8, k: u32) -> bool
     requires { k < 8 }
     ensures { result ≡ bit_of b k }
 {
@@ -65,14 +67,10 @@ impl<'a> Pack<'a> {
     }
 
     // Whether record n is of a table; past the pack a record is all zeros.
-    #[tactic(auto, using(crate::proofs::Past::byte_past))]
     pub fn is_of(self, table: u8, n: usize) -> bool
         ensures { result ≡ is_of self.entry.bytes.now table n }
     {
-        if n < self.records() {
-            return self.byte(n, 0) == table;
-        }
-        table == 0
+        byte_at(self, n, 0) == table
     }
 
     // How many records of a table the pack has.
@@ -96,7 +94,7 @@ impl<'a> Pack<'a> {
         requires in_record { j < 64 }
         ensures { result ≡ byte_of self.entry.bytes.now n j }
     {
-        self.bytes[n * 64 + j]
+        byte_of(self.bytes, n, j)
     }
 
     pub fn word(self, n: usize, j: usize) -> u32
@@ -104,7 +102,7 @@ impl<'a> Pack<'a> {
         requires in_record { j ≤ 60 }
         ensures { result ≡ number 4 self.entry.bytes.now (n * 64 + j) }
     {
-        word_at(self.bytes, n * 64 + j)
+        word_of(self.bytes, n, j)
     }
 
     pub fn long(self, n: usize, j: usize) -> u64
@@ -112,7 +110,7 @@ impl<'a> Pack<'a> {
         requires in_record { j ≤ 56 }
         ensures { result ≡ number 8 self.entry.bytes.now (n * 64 + j) }
     {
-        long_at(self.bytes, n * 64 + j)
+        long_of(self.bytes, n, j)
     }
 
     // The range from byte j: a start and a length.
@@ -122,10 +120,7 @@ impl<'a> Pack<'a> {
         ensures start { result.start ≡ number 4 self.entry.bytes.now (n * 64 + j) }
         ensures len { result.len ≡ number 4 self.entry.bytes.now (n * 64 + (j + 4)) }
     {
-        SliceRange {
-            start: self.word(n, j),
-            len: self.word(n, j + 4),
-        }
+        range_of(self.bytes, n, j)
     }
 
     // The span from byte j, and the identity's place from byte j.
@@ -135,10 +130,7 @@ impl<'a> Pack<'a> {
         ensures start { result.start ≡ number 8 self.entry.bytes.now (n * 64 + j) }
         ensures len { result.len ≡ number 8 self.entry.bytes.now (n * 64 + (j + 8)) }
     {
-        IndexSpan {
-            start: self.long(n, j),
-            len: self.long(n, j + 8),
-        }
+        span_of(self.bytes, n, j)
     }
 
     pub fn place(self, n: usize, j: usize, house: bool) -> IdentityPlace
@@ -147,11 +139,7 @@ impl<'a> Pack<'a> {
         ensures { result
             ≡ record { house = house; start = number 4 self.entry.bytes.now (n * 64 + j); len = number 4 self.entry.bytes.now (n * 64 + (j + 4)) } }
     {
-        IdentityPlace {
-            house,
-            start: self.word(n, j),
-            len: self.word(n, j + 4),
-        }
+        place_of(house, self.bytes, n, j)
     }
 }
 

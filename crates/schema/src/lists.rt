@@ -3,12 +3,13 @@
 
 ghost use Rattle.std.specs.Prelude.{◌≡◌};
 ghost use Rattle.schema.specs.Rows.{empty, index_of, level_of, startup_of, lifecycle_of};
-ghost use Rattle.std.specs.Prelude.{◌+◌, ◌/◌, ◌^◌, ◌<◌, length};
+ghost use Rattle.std.specs.Prelude.{◌+◌, ◌^◌, ◌<◌};
 ghost use Rattle.schema.specs.Tables.{tables, start_of};
 ghost use Rattle.schema.specs.Rows.{index_at, level_at, startup_at, lifecycle_at};
 
 use crate::index::{ActionIndex, ModeIndex, PortIndex, ReactionIndex, ScopeIndex};
 use crate::lent::{Enclave, Pack};
+use crate::read_lists::{index_at, level_of, lifecycle_of, startup_of};
 
 // A reaction with its level.
 #[derive(Clone, Copy)]
@@ -41,24 +42,14 @@ impl LevelReactionImage {
         }
     }
 
-    // The entry of record n; the empty one where the pack ends before it.
+    // The row of record n; the empty row where the pack ends before it.
     pub fn at(pack: Pack, n: usize) -> Self
         ensures { result ≡ level_at pack.entry.bytes.now n }
     {
         if pack.records() <= n {
             return Self::empty();
         }
-        Self::inside(pack, n)
-    }
-
-    fn inside(pack: Pack, n: usize) -> Self
-        requires { n < length pack.bytes.now / 64 }
-        ensures { result ≡ level_at pack.entry.bytes.now n }
-    {
-        LevelReactionImage {
-            level: pack.word(n, 4),
-            reaction: ReactionIndex(pack.word(n, 8)),
-        }
+        level_of(pack.bytes, n)
     }
 }
 
@@ -72,14 +63,14 @@ impl TimerStartupImage {
         }
     }
 
-    fn inside(pack: Pack, n: usize) -> Self
-        requires { n < length pack.bytes.now / 64 }
+    // The row of record n; the empty row where the pack ends before it.
+    pub fn at(pack: Pack, n: usize) -> Self
         ensures { result ≡ startup_at pack.entry.bytes.now n }
     {
-        TimerStartupImage {
-            action: ActionIndex(pack.word(n, 4)),
-            logical_delay_nanos: pack.long(n, 8),
+        if pack.records() <= n {
+            return Self::empty();
         }
+        startup_of(pack.bytes, n)
     }
 }
 
@@ -93,27 +84,14 @@ impl LifecycleReactionImage {
         }
     }
 
-    // The entry of record n; the empty one where the pack ends before it.
+    // The row of record n; the empty row where the pack ends before it.
     pub fn at(pack: Pack, n: usize) -> Self
         ensures { result ≡ lifecycle_at pack.entry.bytes.now n }
     {
         if pack.records() <= n {
             return Self::empty();
         }
-        Self::inside(pack, n)
-    }
-
-    fn inside(pack: Pack, n: usize) -> Self
-        requires { n < length pack.bytes.now / 64 }
-        ensures { result ≡ lifecycle_at pack.entry.bytes.now n }
-    {
-        LifecycleReactionImage {
-            reaction: LevelReactionImage {
-                level: pack.word(n, 4),
-                reaction: ReactionIndex(pack.word(n, 8)),
-            },
-            action: ActionIndex(pack.word(n, 12)),
-        }
+        lifecycle_of(pack.bytes, n)
     }
 }
 
@@ -133,11 +111,7 @@ impl<const T: u8> PortEntry<T> {
         requires within { i < 2 ^ 33 }
         ensures { result.0.0 ≡ index_at e.entry.pack.bytes.now (start_of e.entry.starts.now T + i) }
     {
-        let n = e.record(T, i);
-        if e.pack.records() <= n {
-            return Self::empty();
-        }
-        PortEntry(PortIndex(e.pack.word(n, 4)))
+        PortEntry(PortIndex(index_at(e.pack, e.record(T, i))))
     }
 }
 
@@ -157,11 +131,7 @@ impl<const T: u8> ActionEntry<T> {
         requires within { i < 2 ^ 33 }
         ensures { result.0.0 ≡ index_at e.entry.pack.bytes.now (start_of e.entry.starts.now T + i) }
     {
-        let n = e.record(T, i);
-        if e.pack.records() <= n {
-            return Self::empty();
-        }
-        ActionEntry(ActionIndex(e.pack.word(n, 4)))
+        ActionEntry(ActionIndex(index_at(e.pack, e.record(T, i))))
     }
 }
 
@@ -181,11 +151,7 @@ impl<const T: u8> ModeEntry<T> {
         requires within { i < 2 ^ 33 }
         ensures { result.0.0 ≡ index_at e.entry.pack.bytes.now (start_of e.entry.starts.now T + i) }
     {
-        let n = e.record(T, i);
-        if e.pack.records() <= n {
-            return Self::empty();
-        }
-        ModeEntry(ModeIndex(e.pack.word(n, 4)))
+        ModeEntry(ModeIndex(index_at(e.pack, e.record(T, i))))
     }
 }
 
@@ -205,11 +171,7 @@ impl<const T: u8> ScopeEntry<T> {
         requires within { i < 2 ^ 33 }
         ensures { result.0.0 ≡ index_at e.entry.pack.bytes.now (start_of e.entry.starts.now T + i) }
     {
-        let n = e.record(T, i);
-        if e.pack.records() <= n {
-            return Self::empty();
-        }
-        ScopeEntry(ScopeIndex(e.pack.word(n, 4)))
+        ScopeEntry(ScopeIndex(index_at(e.pack, e.record(T, i))))
     }
 }
 
@@ -229,11 +191,7 @@ impl<const T: u8> LevelEntry<T> {
         requires within { i < 2 ^ 33 }
         ensures { result.0 ≡ level_at e.entry.pack.bytes.now (start_of e.entry.starts.now T + i) }
     {
-        let n = e.record(T, i);
-        if e.pack.records() <= n {
-            return Self::empty();
-        }
-        LevelEntry(LevelReactionImage::inside(e.pack, n))
+        LevelEntry(LevelReactionImage::at(e.pack, e.record(T, i)))
     }
 }
 
@@ -253,11 +211,7 @@ impl<const T: u8> StartupEntry<T> {
         requires within { i < 2 ^ 33 }
         ensures { result.0 ≡ startup_at e.entry.pack.bytes.now (start_of e.entry.starts.now T + i) }
     {
-        let n = e.record(T, i);
-        if e.pack.records() <= n {
-            return Self::empty();
-        }
-        StartupEntry(TimerStartupImage::inside(e.pack, n))
+        StartupEntry(TimerStartupImage::at(e.pack, e.record(T, i)))
     }
 }
 
@@ -277,11 +231,7 @@ impl<const T: u8> LifecycleEntry<T> {
         requires within { i < 2 ^ 33 }
         ensures { result.0 ≡ lifecycle_at e.entry.pack.bytes.now (start_of e.entry.starts.now T + i) }
     {
-        let n = e.record(T, i);
-        if e.pack.records() <= n {
-            return Self::empty();
-        }
-        LifecycleEntry(LifecycleReactionImage::inside(e.pack, n))
+        LifecycleEntry(LifecycleReactionImage::at(e.pack, e.record(T, i)))
     }
 }
 

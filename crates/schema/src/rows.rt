@@ -2,20 +2,20 @@
 #![tactic(auto, using(crate::proofs::Past::rows_past), unfolding(crate::specs::Rows::federate_at, crate::specs::Rows::enclave_at, crate::specs::Rows::reactor_at, crate::specs::Rows::action_at, crate::specs::Rows::port_at, crate::specs::Rows::reaction_at, crate::specs::Rows::mode_at, crate::specs::Rows::scope_at, crate::specs::Rows::route_at, crate::specs::Rows::binding_at))]
 
 ghost use Rattle.schema.specs.Tables.{start_of};
-ghost use Rattle.std.specs.Prelude.{◌≡◌, ◌+◌, ◌<◌, ◌/◌, length, false};
+ghost use Rattle.std.specs.Prelude.{◌≡◌, ◌+◌, false};
 ghost use Rattle.schema.specs.Rows.{federate_at, enclave_at, reactor_at, action_at, port_at, reaction_at, mode_at, scope_at, route_at, binding_at};
 ghost use Rattle.schema.specs.Rows.{empty, federate_of, enclave_of, reactor_of, action_of, port_of, reaction_of, mode_of, scope_of, route_of, binding_of};
 
-use crate::fields::{
-    direction_of, domain_of, kind_of, maybe_bank, maybe_binding, maybe_effect, maybe_mode,
-    maybe_scope, timing_of,
-};
 use crate::index::{
     ActionIndex, ActionTiming, BindingKind, BindingSlotIndex, MaybeBank, MaybeBinding, MaybeMode,
     MaybeModeEffect, MaybeScope, ModeIndex, PortIndex, ReactionIndex, ReactorIndex, RouteDirection,
     ScopeIndex, TimingDomain,
 };
-use crate::lent::{Enclave, Pack, bit};
+use crate::lent::{Enclave, Pack};
+use crate::read::{
+    action_of, binding_of, enclave_of, federate_of, mode_of, port_of, reaction_of, reactor_of,
+    route_of, scope_of,
+};
 use identity::IdentityPlace;
 use range::{EnclaveSpan, IndexSpan, ModeSpan, SliceRange};
 
@@ -162,20 +162,7 @@ impl FederateImage {
         if pack.records() <= n {
             return Self::empty();
         }
-        Self::inside(pack, n)
-    }
-
-    fn inside(pack: Pack, n: usize) -> Self
-        requires { n < length pack.bytes.now / 64 }
-        ensures { result ≡ federate_at pack.entry.bytes.now n }
-    {
-        let bits = pack.byte(n, 1);
-        FederateImage {
-            id: pack.place(n, 4, bit(bits, 0)),
-            target: pack.place(n, 12, bit(bits, 1)),
-            runtime: pack.place(n, 20, bit(bits, 2)),
-            enclaves: EnclaveSpan(pack.span(n, 28)),
-        }
+        federate_of(pack.bytes, n)
     }
 }
 
@@ -205,24 +192,7 @@ impl EnclaveImage {
         if pack.records() <= n {
             return Self::empty();
         }
-        Self::inside(pack, n)
-    }
-
-    fn inside(pack: Pack, n: usize) -> Self
-        requires { n < length pack.bytes.now / 64 }
-        ensures { result ≡ enclave_at pack.entry.bytes.now n }
-    {
-        EnclaveImage {
-            enclave_id: pack.place(n, 4, bit(pack.byte(n, 1), 0)),
-            storage_bounds: StorageBounds {
-                state_slots: pack.word(n, 12),
-                action_slots: pack.word(n, 16),
-                event_capacity: pack.word(n, 20),
-                payload_bytes: pack.long(n, 24),
-                state_bytes: pack.long(n, 32),
-                scratch_bytes: pack.long(n, 40),
-            },
-        }
+        enclave_of(pack.bytes, n)
     }
 }
 
@@ -249,7 +219,7 @@ impl ReactorImage {
         if pack.records() <= n {
             return Self::empty();
         }
-        Self::inside(pack, n)
+        reactor_of(pack.bytes, n)
     }
 
     // Row i of the enclave's table.
@@ -257,21 +227,6 @@ impl ReactorImage {
         ensures { result ≡ reactor_at e.entry.pack.bytes.now (start_of e.entry.starts.now 2 + i.0) }
     {
         Self::at(e.pack, e.record(ReactorImage::TABLE, i.0 as usize))
-    }
-
-    fn inside(pack: Pack, n: usize) -> Self
-        requires { n < length pack.bytes.now / 64 }
-        ensures { result ≡ reactor_at pack.entry.bytes.now n }
-    {
-        let bits = pack.byte(n, 1);
-        ReactorImage {
-            state_binding: BindingSlotIndex(pack.word(n, 4)),
-            state_slot: pack.word(n, 8),
-            root_scope: ScopeIndex(pack.word(n, 12)),
-            modes: ModeSpan(pack.span(n, 16)),
-            initial_mode: maybe_mode(bit(bits, 0), pack.word(n, 32)),
-            bank: maybe_bank(bit(bits, 1), pack.word(n, 36), pack.word(n, 40)),
-        }
     }
 }
 
@@ -300,7 +255,7 @@ impl ActionImage {
         if pack.records() <= n {
             return Self::empty();
         }
-        Self::inside(pack, n)
+        action_of(pack.bytes, n)
     }
 
     // Row i of the enclave's table.
@@ -308,20 +263,6 @@ impl ActionImage {
         ensures { result ≡ action_at e.entry.pack.bytes.now (start_of e.entry.starts.now 3 + i.0) }
     {
         Self::at(e.pack, e.record(ActionImage::TABLE, i.0 as usize))
-    }
-
-    fn inside(pack: Pack, n: usize) -> Self
-        requires { n < length pack.bytes.now / 64 }
-        ensures { result ≡ action_at pack.entry.bytes.now n }
-    {
-        let bits = pack.byte(n, 1);
-        ActionImage {
-            scope: ScopeIndex(pack.word(n, 4)),
-            storage_slot: pack.word(n, 8),
-            binding: maybe_binding(bit(bits, 0), pack.word(n, 12)),
-            timing: timing_of(pack.byte(n, 2), bit(bits, 1), pack.long(n, 16)),
-            triggers: pack.range(n, 24),
-        }
     }
 }
 
@@ -345,7 +286,7 @@ impl PortImage {
         if pack.records() <= n {
             return Self::empty();
         }
-        Self::inside(pack, n)
+        port_of(pack.bytes, n)
     }
 
     // Row i of the enclave's table.
@@ -353,17 +294,6 @@ impl PortImage {
         ensures { result ≡ port_at e.entry.pack.bytes.now (start_of e.entry.starts.now 4 + i.0) }
     {
         Self::at(e.pack, e.record(PortImage::TABLE, i.0 as usize))
-    }
-
-    fn inside(pack: Pack, n: usize) -> Self
-        requires { n < length pack.bytes.now / 64 }
-        ensures { result ≡ port_at pack.entry.bytes.now n }
-    {
-        PortImage {
-            binding: BindingSlotIndex(pack.word(n, 4)),
-            scope: ScopeIndex(pack.word(n, 8)),
-            triggers: pack.range(n, 12),
-        }
     }
 }
 
@@ -394,7 +324,7 @@ impl ReactionImage {
         if pack.records() <= n {
             return Self::empty();
         }
-        Self::inside(pack, n)
+        reaction_of(pack.bytes, n)
     }
 
     // Row i of the enclave's table.
@@ -402,25 +332,6 @@ impl ReactionImage {
         ensures { result ≡ reaction_at e.entry.pack.bytes.now (start_of e.entry.starts.now 5 + i.0) }
     {
         Self::at(e.pack, e.record(ReactionImage::TABLE, i.0 as usize))
-    }
-
-    fn inside(pack: Pack, n: usize) -> Self
-        requires { n < length pack.bytes.now / 64 }
-        ensures { result ≡ reaction_at pack.entry.bytes.now n }
-    {
-        let bits = pack.byte(n, 1);
-        ReactionImage {
-            external_effect: bit(bits, 0),
-            reactor: ReactorIndex(pack.word(n, 4)),
-            scope: ScopeIndex(pack.word(n, 8)),
-            dependency_level: pack.word(n, 12),
-            binding: BindingSlotIndex(pack.word(n, 16)),
-            use_ports: pack.range(n, 20),
-            effect_ports: pack.range(n, 28),
-            actions: pack.range(n, 36),
-            enabled_modes: pack.range(n, 44),
-            mode_effect: maybe_effect(bit(bits, 1), pack.byte(n, 2), pack.word(n, 52)),
-        }
     }
 }
 
@@ -443,7 +354,7 @@ impl ModeImage {
         if pack.records() <= n {
             return Self::empty();
         }
-        Self::inside(pack, n)
+        mode_of(pack.bytes, n)
     }
 
     // Row i of the enclave's table.
@@ -451,16 +362,6 @@ impl ModeImage {
         ensures { result ≡ mode_at e.entry.pack.bytes.now (start_of e.entry.starts.now 6 + i.0) }
     {
         Self::at(e.pack, e.record(ModeImage::TABLE, i.0 as usize))
-    }
-
-    fn inside(pack: Pack, n: usize) -> Self
-        requires { n < length pack.bytes.now / 64 }
-        ensures { result ≡ mode_at pack.entry.bytes.now n }
-    {
-        ModeImage {
-            reactor: ReactorIndex(pack.word(n, 4)),
-            scope: ScopeIndex(pack.word(n, 8)),
-        }
     }
 }
 
@@ -490,7 +391,7 @@ impl ScopeImage {
         if pack.records() <= n {
             return Self::empty();
         }
-        Self::inside(pack, n)
+        scope_of(pack.bytes, n)
     }
 
     // Row i of the enclave's table.
@@ -498,24 +399,6 @@ impl ScopeImage {
         ensures { result ≡ scope_at e.entry.pack.bytes.now (start_of e.entry.starts.now 7 + i.0) }
     {
         Self::at(e.pack, e.record(ScopeImage::TABLE, i.0 as usize))
-    }
-
-    fn inside(pack: Pack, n: usize) -> Self
-        requires { n < length pack.bytes.now / 64 }
-        ensures { result ≡ scope_at pack.entry.bytes.now n }
-    {
-        let bits = pack.byte(n, 1);
-        ScopeImage {
-            parent: maybe_scope(bit(bits, 0), pack.word(n, 4)),
-            reactor: ReactorIndex(pack.word(n, 8)),
-            mode: maybe_mode(bit(bits, 1), pack.word(n, 12)),
-            descendants: pack.range(n, 16),
-            logical_actions: pack.range(n, 24),
-            timer_startups: pack.range(n, 32),
-            reset_reactions: pack.range(n, 40),
-            startup_reactions: pack.range(n, 48),
-            shutdown_reactions: pack.range(n, 56),
-        }
     }
 }
 
@@ -541,7 +424,7 @@ impl RouteImage {
         if pack.records() <= n {
             return Self::empty();
         }
-        Self::inside(pack, n)
+        route_of(pack.bytes, n)
     }
 
     // Row i of the enclave's table.
@@ -549,20 +432,6 @@ impl RouteImage {
         ensures { result ≡ route_at e.entry.pack.bytes.now (start_of e.entry.starts.now 23 + i) }
     {
         Self::at(e.pack, e.record(RouteImage::TABLE, i as usize))
-    }
-
-    fn inside(pack: Pack, n: usize) -> Self
-        requires { n < length pack.bytes.now / 64 }
-        ensures { result ≡ route_at pack.entry.bytes.now n }
-    {
-        let kinds = pack.byte(n, 2);
-        RouteImage {
-            boundary: pack.place(n, 4, bit(pack.byte(n, 1), 0)),
-            local_port: PortIndex(pack.word(n, 12)),
-            direction: direction_of(bit(kinds, 0)),
-            timing_domain: domain_of(bit(kinds, 1)),
-            delay_nanos: pack.long(n, 16),
-        }
     }
 }
 
@@ -585,7 +454,7 @@ impl RequiredBindingImage {
         if pack.records() <= n {
             return Self::empty();
         }
-        Self::inside(pack, n)
+        binding_of(pack.bytes, n)
     }
 
     // Row i of the enclave's table.
@@ -593,15 +462,5 @@ impl RequiredBindingImage {
         ensures { result ≡ binding_at e.entry.pack.bytes.now (start_of e.entry.starts.now 24 + i.0) }
     {
         Self::at(e.pack, e.record(RequiredBindingImage::TABLE, i.0 as usize))
-    }
-
-    fn inside(pack: Pack, n: usize) -> Self
-        requires { n < length pack.bytes.now / 64 }
-        ensures { result ≡ binding_at pack.entry.bytes.now n }
-    {
-        RequiredBindingImage {
-            id: pack.place(n, 4, bit(pack.byte(n, 1), 0)),
-            kind: kind_of(pack.byte(n, 2)),
-        }
     }
 }
