@@ -3,6 +3,7 @@ ghost use Rattle.std.specs.Prelude.{◌≡◌};
 ghost use Rattle.answers.specs.Checks.{first, run};
 ghost use Rattle.checks.specs.Image.{image_of, route_part};
 ghost use Rattle.checks.specs.Lists.{after_first};
+ghost use Rattle.schema.specs.Records.{direction_number};
 ghost use Rattle.schema.specs.Tables.{rows_of};
 ghost use Rattle.list_checks.specs.Routes.{route_order_checks, route_row, route_checks, binding_id_row, binding_id_checks};
 
@@ -16,6 +17,13 @@ use identity::{ByteOrder, IdentityPlace};
 use schema::index::{BindingSlotIndex, RouteDirection};
 use schema::lent::Enclave;
 use schema::rows::{RequiredBindingImage, RouteImage};
+
+// The number of a direction: 0 inbound, 1 outbound.
+pub fn direction_number(direction: RouteDirection) -> u8
+    ensures { result ≡ direction_number direction }
+{
+    direction.number()
+}
 
 // A route against the one before it, if there is one: boundaries rise, and of one boundary the inbound half comes first.
 #[tactic(auto, unfolding(answers::specs::Checks::first, crate::specs::Routes::route_order_checks))]
@@ -48,7 +56,7 @@ fn check_route_order(
             }
             _ => Outcome::Refused(Refusal::DuplicateRouteHalf {
                 boundary,
-                direction: route.direction.number(),
+                direction: direction_number(route.direction),
             }),
         },
         ByteOrder::Greater => Outcome::Passed,
