@@ -61,6 +61,11 @@ scalar_of a b c d =
 unfoldable pub scalar_at : List ℕ → ℕ → Decoded
 scalar_at s i = scalar_of (get_or s i 0) (get_or s (i + 1) 0) (get_or s (i + 2) 0) (get_or s (i + 3) 0)
 
+-- How many bytes a scalar takes; 0 where there is none.
+abbrev pub width_of : Decoded → ℕ
+width_of (Scalar v w) = w
+width_of Malformed = 0
+
 -- The scalars of a text, or none where it is not UTF-8.
 pub data Scalars : Type 0 where
   some : List ℕ → Scalars

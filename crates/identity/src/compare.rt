@@ -1,6 +1,6 @@
 // The order of two identities by byte.
 ghost use Rattle.std.specs.Prelude.{◌≡◌, ◌≤◌, length};
-ghost use Rattle.identity.specs.Order.{compared, sign};
+ghost use Rattle.identity.specs.Order.{compared, sign, is_greater};
 ghost use Rattle.identity.specs.Text.{identity_text};
 ghost use Rattle.identity.specs.Scan.{every, same_at};
 
@@ -52,6 +52,13 @@ pub fn compare_bytes(left: &[u8], right: &[u8]) -> ByteOrder
     }
 }
 
+// Whether the first text comes after the second.
+pub fn bytes_above(left: &[u8], right: &[u8]) -> bool
+    ensures { result ≡ is_greater (compared left.now right.now) }
+{
+    matches!(compare_bytes(left, right), ByteOrder::Greater)
+}
+
 // The order of two identities by byte, a place outside counting as empty.
 pub fn compare_places(
     batch: &[u8],
@@ -76,4 +83,14 @@ pub fn compare_utf8(batch: &[u8], house: &[u8], left: IdentityPlace, right: Iden
         ByteOrder::Equal => 0,
         ByteOrder::Greater => 1,
     }
+}
+
+// Whether the identity `id` comes after `before`.
+pub fn above(batch: &[u8], house: &[u8], id: IdentityPlace, before: IdentityPlace) -> bool
+    ensures { result ≡ is_greater (compared (identity_text batch.now house.now id) (identity_text batch.now house.now before)) }
+{
+    bytes_above(
+        identity_text(batch, house, id),
+        identity_text(batch, house, before),
+    )
 }

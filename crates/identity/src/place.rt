@@ -1,8 +1,10 @@
 // The part of a lent text that an identity's place names.
 ghost use Rattle.std.specs.Prelude.{◌≡◌, cond};
+ghost use Rattle.identity.specs.Short.{names_ascii};
 ghost use Rattle.identity.specs.Text.{part_at, part_pointer, named_text, place_inside, identity_text, identity_pointer};
 
 use crate::IdentityPlace;
+use crate::scan::short_ascii;
 
 // The `len` bytes of `text` from `start`, or the empty part at the text's start where that place is outside.
 pub fn part_at(text: &[u8], start: u32, len: u32) -> &[u8]
@@ -40,4 +42,11 @@ pub fn identity_text<'a>(batch: &'a [u8], house: &'a [u8], place: IdentityPlace)
     ensures pointer { result.ref_ptr ≡ identity_pointer batch.entry.ref_ptr house.entry.ref_ptr batch.now house.now place }
 {
     part_at(named_text(batch, house, place), place.start, place.len)
+}
+
+// Whether a place is inside its text and names 4 to 16 bytes of ASCII.
+pub fn names_ascii(batch: &[u8], house: &[u8], place: IdentityPlace) -> bool
+    ensures { result ≡ names_ascii batch.now house.now place }
+{
+    place_inside(batch, house, place) && short_ascii(identity_text(batch, house, place))
 }

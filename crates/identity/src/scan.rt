@@ -2,6 +2,7 @@
 ghost use Rattle.std.specs.Prelude.{◌≡◌, true, false, ◌+◌, ◌-◌, ◌<◌, ◌≤◌, length};
 ghost use Rattle.identity.specs.Utf8.{utf8};
 ghost use Rattle.identity.specs.Identity.{valid_id};
+ghost use Rattle.identity.specs.Short.{short_ascii};
 ghost use Rattle.identity.specs.Scan.{ascii, every, ascii_at, refused, Run, Passed, Stepped, utf8_from, id_from};
 ghost use Rattle.identity.specs.Window.{due, second, starts, fits, fits_at, quiet_at};
 
@@ -24,6 +25,14 @@ fn all_ascii(any: bool, text: &[u8]) -> bool
         all = all & ascii(any, *b);
     }
     all
+}
+
+// Whether a text is 4 to 16 bytes of ASCII.
+pub fn short_ascii(text: &[u8]) -> bool
+    ensures { result ≡ short_ascii text.now }
+{
+    let len = text.len();
+    4 <= len && len <= 16 && all_ascii(true, text)
 }
 
 // Whether a following byte is due after p, q and r, the nearest of them first.
@@ -218,4 +227,11 @@ pub fn valid_id(text: &[u8]) -> bool
         at += width;
     }
     at != 0
+}
+
+// The same, under the name for callers that have many texts.
+pub fn quick_valid_id(text: &[u8]) -> bool
+    ensures { result ≡ valid_id text.now }
+{
+    valid_id(text)
 }
