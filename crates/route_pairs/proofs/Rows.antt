@@ -4,6 +4,7 @@ use borrow.Author.Tests.{eq-eqb, ne_eqb, eqb-true}
 use Rattle.std.proofs.lemmas.List.Sorted.{sum_by-IsPermutation}
 use Rattle.std.proofs.lemmas.List.Sums.{sum_by-cons, sum_by-append, get_or-le-sum_by, sum_by_more_le}
 use Rattle.schema.specs.Records.{is_of, records_of, count_below}
+use Rattle.schema.proofs.Counts.{records_few}
 use Rattle.route_pairs.specs.RouteOrder.{routes_below, routes_of}
 use Rattle.route_pairs.proofs.Counts.{below_zero, below_some, below_one}
 use Rattle.identity.proofs.Tests.{cases, below_or_not, both}
@@ -50,6 +51,9 @@ module _ (p : List ℕ) where
       let r = count_few n in
       let e = count_next n in
       grind arith
+
+  pub routes_few : length (routes_of p) ≤ 65536
+  routes_few = let h = count_few (records_of p) in let f = records_few p in omega arith
 
   -- in a list with a place for each route there is one for the next
   module _ (n : ℕ) (inside : n < records_of p) (route : is_of p 23 n ≡ true) where

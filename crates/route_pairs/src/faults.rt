@@ -1,11 +1,12 @@
 // The first route at fault: rows sorted by their boundaries, and one pass over neighbours.
 ghost use Rattle.std.specs.Prelude.{◌≡◌, ◌<◌, ◌≤◌, length, slice_index, IsPermutation, IsSorted};
+ghost use Rattle.identity.specs.Order.{compared};
 ghost use Rattle.route_pairs.specs.RouteOrder.{text_of, boundary_at, routes_of, row_order, are_halves, parted, fits, Scanned, FirstRouteFault};
 
 use crate::{Half, Routes, is_half};
 use identity::ByteOrder;
 use identity::compare::compare_places;
-use schema::lent::PACK_LIMIT;
+use schema::lent::{PACK_LIMIT, records_of};
 use schema::rows::RouteImage;
 use std::cmp::Ordering;
 
@@ -39,12 +40,21 @@ impl<'a> Routes<'a> {
         ensures { rows.new ≡ routes_of self.entry.pack.bytes.now }
     {
         let mut found = 0;
-        for n in 0..self.pack.records() {
-            if self.pack.is_of(RouteImage::TABLE, n) {
-                rows[found] = n as u32;
+        for n in 0..records_of(self.pack.bytes) {
+            if self.pack.is_of(RouteImage::TABLE, n as usize) {
+                rows[found] = n;
                 found += 1;
             }
         }
+    }
+
+    // The order of the boundaries of records a and b.
+    pub fn order_of(self, a: u32, b: u32) -> ByteOrder
+        ensures { let key = boundary_at (text_of self.entry) self.entry.pack.bytes.now in result ≡ compared (key a) (key b) }
+    {
+        let left = RouteImage::at(self.pack, a as usize).boundary;
+        let right = RouteImage::at(self.pack, b as usize).boundary;
+        compare_places(self.batch, self.house, left, right)
     }
 
     // The order of records a and b: by their boundaries, then by their numbers.
@@ -52,9 +62,7 @@ impl<'a> Routes<'a> {
     pub fn order(self, a: u32, b: u32) -> Ordering
         ensures { result ≡ row_order (boundary_at (text_of self.entry) self.entry.pack.bytes.now) a b }
     {
-        let left = RouteImage::at(self.pack, a as usize).boundary;
-        let right = RouteImage::at(self.pack, b as usize).boundary;
-        match compare_places(self.batch, self.house, left, right) {
+        match self.order_of(a, b) {
             ByteOrder::Less => Ordering::Less,
             ByteOrder::Equal => a.cmp(&b),
             ByteOrder::Greater => Ordering::Greater,
@@ -97,12 +105,12 @@ impl<'a> Routes<'a> {
 
     // The smallest row that does not fit where it stands; the number of records where all fit.
     #[tactic(auto, using(crate::proofs::Scan::scan_laws))]
-    fn least_misfit(self, rows: &[u32]) -> usize
+    fn least_misfit(self, rows: &[u32]) -> u32
         ensures { Scanned (text_of self.entry) self.entry.pack.bytes.now rows.now (length rows.now) result }
     {
-        let mut least = self.pack.records();
+        let mut least = records_of(self.pack.bytes);
         for k in 0..rows.len() {
-            let row = rows[k] as usize;
+            let row = rows[k];
             if row < least && !self.fits(rows, k) {
                 least = row;
             }
@@ -111,7 +119,7 @@ impl<'a> Routes<'a> {
     }
 
     // The first record at fault, or the number of records; `rows` has a place for each route.
-    fn first_fault_in(self, rows: &mut [u32]) -> usize
+    fn first_fault_in(self, rows: &mut [u32]) -> u32
         requires { length rows.old ≡ length (routes_of self.pack.bytes.now) }
         ensures { FirstRouteFault self.entry result }
     {
@@ -122,7 +130,7 @@ impl<'a> Routes<'a> {
 
     // With room for ROOM routes, in a frame of its own: packs with fewer do not pay for it.
     #[inline(never)]
-    fn first_fault_within<const ROOM: usize>(self, routes: usize) -> usize
+    fn first_fault_within<const ROOM: usize>(self, routes: usize) -> u32
         requires all { routes ≡ length (routes_of self.pack.bytes.now) }
         requires room { routes ≤ ROOM }
         requires few { ROOM ≤ 65536 }
@@ -133,13 +141,13 @@ impl<'a> Routes<'a> {
     }
 
     // The first record at fault; the number of records where none is.
-    #[tactic(auto, using(crate::proofs::Rows::count_few))]
-    pub fn first_fault(self) -> usize
+    #[tactic(auto, using(crate::proofs::Rows::routes_few))]
+    pub fn first_fault(self) -> u32
         ensures { FirstRouteFault self.entry result }
     {
         let routes = self.count();
         if routes == 0 {
-            return self.pack.records();
+            return records_of(self.pack.bytes);
         }
         if routes <= SOME_ROUTES {
             return self.first_fault_within::<SOME_ROUTES>(routes);

@@ -1,7 +1,7 @@
 // The routes of a federate, each against all of its boundary.
 #![tactic(auto)]
 
-ghost use Rattle.std.specs.Prelude.{◌≡◌, ◌/◌, ◌<◌, length};
+ghost use Rattle.std.specs.Prelude.{◌≡◌};
 ghost use Rattle.identity.specs.Text.{identity_text};
 ghost use Rattle.identity.specs.Order.{compared};
 ghost use Rattle.answers.specs.Checks.{first, run};
@@ -15,7 +15,7 @@ pub mod faults;
 use answers::{Outcome, Refusal, field};
 use identity::ByteOrder;
 use identity::compare::compare_places;
-use schema::lent::Pack;
+use schema::lent::{Pack, records_of};
 use schema::rows::RouteImage;
 
 // What is counted among the routes of one boundary.
@@ -57,24 +57,23 @@ impl<'a> Routes<'a> {
     }
 
     // Whether record k is a route of the boundary that counts.
-    fn half_at(self, route: RouteImage, half: Half, k: usize) -> bool
-        requires { k < length self.pack.bytes.now / 64 }
+    fn half_at(self, route: RouteImage, half: Half, k: u32) -> bool
         ensures { result ≡ half_at (text_of self.entry) self.entry.pack.bytes.now route half k }
     {
-        if !self.pack.is_of(RouteImage::TABLE, k) {
+        if !self.pack.is_of(RouteImage::TABLE, k as usize) {
             return false;
         }
-        let candidate = RouteImage::at(self.pack, k);
+        let candidate = RouteImage::at(self.pack, k as usize);
         self.same_boundary(candidate, route) && is_half(half, route, candidate)
     }
 
     // How many there are in the pack.
     #[tactic(auto, using(schema::proofs::Counts::count_laws))]
-    fn halves(self, route: RouteImage, half: Half) -> usize
+    fn halves(self, route: RouteImage, half: Half) -> u32
         ensures { result ≡ halves (text_of self.entry) self.entry.pack.bytes.now route half }
     {
         let mut found = 0;
-        for k in 0..self.pack.records() {
+        for k in 0..records_of(self.pack.bytes) {
             if self.half_at(route, half, k) {
                 found += 1;
             }
@@ -117,14 +116,13 @@ impl<'a> Routes<'a> {
 
     // The checks of record n.
     #[tactic(auto, unfolding(answers::specs::Checks::first, crate::specs::RoutePairs::route_record_checks))]
-    fn check_record(self, n: usize) -> Outcome
-        requires { n < length self.pack.bytes.now / 64 }
+    fn check_record(self, n: u32) -> Outcome
         ensures { result ≡ first (route_record_checks (text_of self.entry) self.entry.pack.bytes.now n) }
     {
-        if !self.pack.is_of(RouteImage::TABLE, n) {
+        if !self.pack.is_of(RouteImage::TABLE, n as usize) {
             return Outcome::Passed;
         }
-        self.check_pair(RouteImage::at(self.pack, n))
+        self.check_pair(RouteImage::at(self.pack, n as usize))
     }
 }
 
@@ -135,7 +133,7 @@ pub fn validate_federate_route_pairs(pack: Pack, batch: &[u8], house: &[u8]) -> 
 {
     let routes = Routes { pack, batch, house };
     let n = routes.first_fault();
-    if n < pack.records() {
+    if n < records_of(pack.bytes) {
         return routes.check_record(n);
     }
     Outcome::Passed

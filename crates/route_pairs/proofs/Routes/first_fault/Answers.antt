@@ -6,4 +6,4 @@ use Rattle.route_pairs.proofs.Routes.first_fault.Goals as goal
 pub returns-then-routes-eq0 : goal.returns-then-routes-eq0
 returns-then-routes-eq0 c =
     let counted = c.count-routes.ensures in
-    no_routes (text_of c.args.self) c.args.self.pack.bytes.now c.records.result (omega arith) c.records.ensures
+    no_routes (text_of c.args.self) c.args.self.pack.bytes.now c.records_of.result (omega arith) c.records_of.ensures.value
