@@ -4,3 +4,5 @@ pub mod TableStarts
 pub mod Packed
 pub mod TableRows
 pub mod Runs
+pub mod RowRuns
+pub mod Records

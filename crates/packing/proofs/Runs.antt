@@ -1,5 +1,5 @@
 -- Runs of clean records of one table. Assumes nothing.
-use Rattle.std.proofs.Common.{ℕ, zero, suc, ◌+◌, ◌-◌, ◌<◌, ◌≤◌, true, false, ◌&&◌, ◌≡◌, refl, ◌∙◌, sym, List, ltb, eqb, length, add-one, arith}
+use Rattle.std.proofs.Common.{ℕ, zero, suc, ◌+◌, ◌-◌, ◌/◌, ◌<◌, ◌≤◌, Bool, true, false, ◌&&◌, ◌≡◌, refl, ◌∙◌, sym, List, ltb, eqb, length, add-one, arith}
 use borrow.Author.Tests.{eqb-true, le-leb, ltb-true, ne_eqb}
 use Rattle.answers.specs.declared.Outcome.TheVariants.{Passed}
 use Rattle.answers.specs.Checks.{first, run}
@@ -13,28 +13,58 @@ use Rattle.packing.specs.declared.walker.Record.TheVariants.{At}
 use Rattle.packing.specs.Records.{record_at}
 use Rattle.packing.specs.Shape.{layout_of}
 use Rattle.packing.specs.Packing.{table_after, in_place, record_checks}
-use Rattle.schema.specs.Records.{records_of, is_of}
-use Rattle.packing.specs.Clean.{clean, run_from}
-use Rattle.identity.proofs.Tests.{cases, both, and-false}
+use Rattle.packing.specs.Clean.{head_clean, tail_clean, fields_clean, kind_clean, clean}
+use Rattle.packing.specs.Runs.{CleanRun}
+use Rattle.identity.proofs.Tests.{cases, below_or_not, both, and-false}
 
-module _ (p : List ℕ) (t n : ℕ) where
-  pub run_on : n < records_of p → is_of p t n ≡ true → clean p n ≡ true → run_from p t n (records_of p - n) ≡ run_from p t (n + 1) (records_of p - (n + 1))
-  unfolding run_from
-  run_on h e c = let k : records_of p - n ≡ suc (records_of p - (n + 1)) = omega arith in rw (k, e, c) refl
+-- a record is clean by its parts: the bytes past its fields, bytes 1 to 3 and the governed fields, and what its table asks beside
+parts_turned : (head tail absent kind : Bool) → (tail && (head && absent)) && kind ≡ (head && (tail && absent)) && kind
+parts_turned true true absent kind = refl
+parts_turned true false absent kind = refl
+parts_turned false true absent kind = refl
+parts_turned false false absent kind = refl
 
-  pub run_other : n < records_of p → is_of p t n ≡ false → run_from p t n (records_of p - n) ≡ n
-  unfolding run_from
-  run_other h e = let k : records_of p - n ≡ suc (records_of p - (n + 1)) = omega arith in rw (k, e) refl
+pub clean_parts : (p : List ℕ) (t n : ℕ) (tail fields kind : Bool) → t ≡ byte_of p n 0 → tail ≡ tail_clean (layout_of t) p n → fields ≡ fields_clean (layout_of t) p n → kind ≡ kind_clean t p n → (tail && fields) && kind ≡ clean p n
+unfolding clean
+clean_parts p t n tail fields kind e a b c =
+    rw (a, b, c, e) (parts_turned (head_clean (layout_of (byte_of p n 0)) p n) (tail_clean (layout_of (byte_of p n 0)) p n) _ (kind_clean (byte_of p n 0) p n))
 
-  pub run_unclean : n < records_of p → clean p n ≡ false → run_from p t n (records_of p - n) ≡ n
-  unfolding run_from
-  run_unclean h c = let k : records_of p - n ≡ suc (records_of p - (n + 1)) = omega arith in rw (k, c, and-false (is_of p t n)) refl
+-- the records so far are clean ones of the table; what ends the run
+and_next : (F : ℕ → Type 0) (n r : ℕ) → ((j : ℕ) → n ≤ j → j < r → F j) → F r → (j : ℕ) → n ≤ j → j < r + 1 → F j
+and_next F n r f x j l h = below_or_not j r (λ b. f j l b) (λ b. let e : j ≡ r = omega arith in rw e x)
 
-  pub run_over : records_of p ≤ n → run_from p t n (records_of p - n) ≡ n
-  unfolding run_from
-  run_over h = let k : records_of p - n ≡ 0 = omega arith in rw k refl
+pub run_none : (p : List ℕ) (t n : ℕ) → CleanRun p t n n n
+run_none p t n =
+    record {
+      after = omega arith;
+      inside = omega arith;
+      same = λ j l h. absurd (omega arith);
+      tidy = λ j l h. absurd (omega arith);
+      ended = λ h. absurd (omega arith);
+    }
 
-pub ruleset run_from_laws = (run_on, run_other, run_unclean, run_over)
+module _ (p : List ℕ) (t n r : ℕ) (s : CleanRun p t n r r) where
+  pub run_on : byte_of p r 0 ≡ t → clean p r ≡ true → CleanRun p t n (r + 1) (r + 1)
+  run_on e d =
+      let a = s.after in
+      record {
+        after = omega arith;
+        inside = omega arith;
+        same = and_next (λ j. byte_of p j 0 ≡ t) n r s.same e;
+        tidy = and_next (λ j. clean p j ≡ true) n r s.tidy d;
+        ended = λ h. absurd (omega arith);
+      }
+
+  pub run_all : (limit : ℕ) → r ≤ limit → limit ≤ r → CleanRun p t n limit r
+  run_all limit l h = record { after = s.after; inside = l; same = s.same; tidy = s.tidy; ended = λ g. absurd (omega arith) }
+
+  pub run_other : (limit : ℕ) → r ≤ limit → (byte_of p r 0 ≡ t → ⊥) → CleanRun p t n limit r
+  run_other limit l h = record { after = s.after; inside = l; same = s.same; tidy = s.tidy; ended = λ g e. absurd (h e) }
+
+  pub run_stray : (limit : ℕ) → r ≤ limit → clean p r ≡ false → CleanRun p t n limit r
+  run_stray limit l h = record { after = s.after; inside = l; same = s.same; tidy = s.tidy; ended = λ g e. h }
+
+pub ruleset clean_run_laws = (run_none, run_on, run_all, run_other, run_stray)
 
 -- a table without identities is none of the first two
 no-identities : (t : ℕ) → (layout_of t).identities ≡ 0 → 2 ≤ t
@@ -68,38 +98,38 @@ module _ (kind : PackKind) (p batch house : List ℕ) (t : ℕ) (none : (layout_
   unfolding record_checks first run
   passes n e s c = rw (e, c, s, none) refl
 
-  -- and those of a run of such records
-  run-by : (k n : ℕ) → records_of p - suc n ≡ k → suc n ≤ records_of p → in_place kind p n ≡ true → byte_of p n 0 ≡ t
-      → Remaining (record_checks kind p batch house) (suc n) (records_of p)
-      → Remaining (record_checks kind p batch house) (run_from p t (suc n) (records_of p - suc n)) (records_of p)
-  run-by zero n e w i s r = rw (run_over p t (suc n) (omega arith)) r
-  run-by (suc k) n e w i s r =
-      let l : suc n < records_of p = omega arith in
-      cases (is_of p t (suc n))
-      (λ o.
-      cases (clean p (suc n))
-      (λ c.
-      let b = eqb-true _ _ o in
-      let i' = again kind p n i (rw s (no-identities t none)) (b ∙ sym s) in
-      let q = first_past (record_checks kind p batch house (suc n)) _ (passes (suc n) i' b c) in
-      let r' : Remaining (record_checks kind p batch house) (suc n + 1) (records_of p) = r ∙ rw (run_next (record_checks kind p batch house) (suc n) (records_of p) l) q in
-      rw (run_on p t (suc n) l o c, add-one (suc n)) (run-by k (suc n) (omega arith) (omega arith) i' b (rw (add-one (suc n)) at r')))
-      (λ c. rw (run_unclean p t (suc n) l c) r))
-      (λ o. rw (run_other p t (suc n) l o) r)
-
-run-within : (p : List ℕ) (t k n : ℕ) → (n ≤ run_from p t n k) × (run_from p t n k ≤ n + k)
-unfolding run_from
-run-within p t zero n = (omega arith, omega arith)
-run-within p t (suc k) n =
-    cases (is_of p t n && clean p n)
-    (λ e. let w = run-within p t k (n + 1) in let a = w.0 in let b = w.1 in rw e (omega arith, omega arith))
-    (λ e. rw e (omega arith, omega arith))
+  -- and those of a run of such records, up to its k-th
+  run-by : (limit r k n : ℕ) → CleanRun p t (suc n) limit r → suc n + k ≤ r → limit ≤ length p / 64 → in_place kind p n ≡ true → byte_of p n 0 ≡ t
+      → Remaining (record_checks kind p batch house) (suc n) (length p / 64)
+      → (in_place kind p (n + k) ≡ true) × Remaining (record_checks kind p batch house) (suc n + k) (length p / 64)
+  run-by limit r zero n c l m i s q =
+      let a : n + 0 ≡ n = omega arith in
+      let b : suc n + 0 ≡ suc n = omega arith in
+      rw (a, b) (i, q)
+  run-by limit r (suc k) n c l m i s q =
+      let v = c.inside in
+      let w = run-by limit r k n c (omega arith) m i s q in
+      let j = suc (n + k) in
+      let f : suc n + suc k ≡ j + 1 = omega arith in
+      let d : n + suc k ≡ j = omega arith in
+      let g : suc n + k ≡ j = omega arith in
+      let b = c.same j (omega arith) (omega arith) in
+      let o : byte_of p (n + k) 0 ≡ t = same-before limit r k n c (omega arith) s in
+      let i' : in_place kind p j ≡ true = again kind p (n + k) w.0 (rw o (no-identities t none)) (b ∙ sym o) in
+      let x = first_past (record_checks kind p batch house j) _ (passes j i' b (c.tidy j (omega arith) (omega arith))) in
+      let here : Remaining (record_checks kind p batch house) j (length p / 64) = rw g at w.1 in
+      let next : Remaining (record_checks kind p batch house) (j + 1) (length p / 64) = here ∙ rw (run_next (record_checks kind p batch house) j (length p / 64) (omega arith)) x in
+      rw (d, f) (i', next)
+    where
+      same-before : (limit r k n : ℕ) → CleanRun p t (suc n) limit r → suc n + k ≤ r → byte_of p n 0 ≡ t → byte_of p (n + k) 0 ≡ t
+      same-before limit r zero n c l s = let a : n + 0 ≡ n = omega arith in rw a s
+      same-before limit r (suc k) n c l s = c.same (n + suc k) (omega arith) (omega arith)
 
 -- the record that the walker yields
-yielded : (p : List ℕ) (n t m : ℕ) → At t m ≡ record_at p n → (n < records_of p) × (t ≡ byte_of p n 0)
+yielded : (p : List ℕ) (n t m : ℕ) → At t m ≡ record_at p n → (n < length p / 64) × (t ≡ byte_of p n 0)
 yielded p n t m e =
-    cases (ltb n (records_of p))
-    (λ b. let h = rw b at e in let x : t ≡ byte_of p n 0 = cc in (ltb-true n (records_of p) b, x))
+    cases (ltb n (length p / 64))
+    (λ b. let h = rw b at e in let x : t ≡ byte_of p n 0 = cc in (ltb-true n (length p / 64) b, x))
     (λ b. let h = rw b at e in cc)
 
 placed : (kind : PackKind) (p batch house : List ℕ) (n : ℕ) → first (record_checks kind p batch house n) ≡ Passed → in_place kind p n ≡ true
@@ -107,19 +137,12 @@ unfolding record_checks first
 placed kind p batch house n e = cases (in_place kind p n) (λ b. b) (λ b. let h = rw b at e in cc)
 
 -- after a record of a table without identities that passes, the run of clean ones of it is passed over
-module _ (kind : PackKind) (p batch house : List ℕ) (n t m r : ℕ) (y : At t m ≡ record_at p n) (e : r ≡ run_from p t (n + 1) (records_of p - (n + 1))) where
-  pub run_ahead : n < r
-  run_ahead = let w = (run-within p t (records_of p - (n + 1)) (n + 1)).0 in omega arith
-
-  pub run_inside : r ≤ records_of p
-  run_inside =
-      let l = (yielded p n t m y).0 in
-      let w = (run-within p t (records_of p - (n + 1)) (n + 1)).1 in
-      omega arith
-
-  pub run_passed : first (record_checks kind p batch house n) ≡ Passed → (layout_of t).identities ≡ 0 → Remaining (record_checks kind p batch house) n (records_of p) → Remaining (record_checks kind p batch house) r (records_of p)
+module _ (kind : PackKind) (p batch house : List ℕ) (n t m r : ℕ) (y : At t m ≡ record_at p n) (c : CleanRun p t (n + 1) (length p / 64) r) where
+  pub run_passed : first (record_checks kind p batch house n) ≡ Passed → (layout_of t).identities ≡ 0 → Remaining (record_checks kind p batch house) n (length p / 64) → Remaining (record_checks kind p batch house) r (length p / 64)
   run_passed q none r0 =
       let l = (yielded p n t m y).0 in
       let b = (yielded p n t m y).1 in
-      let next : Remaining (record_checks kind p batch house) (n + 1) (records_of p) = r0 ∙ rw (run_next (record_checks kind p batch house) n (records_of p) l) (first_past (record_checks kind p batch house n) _ q) in
-      rw (e, add-one n) (run-by kind p batch house t none (records_of p - suc n) n refl (omega arith) (placed kind p batch house n q) (sym b) (rw (add-one n) at next))
+      let a = c.after in
+      let e : suc n + (r - suc n) ≡ r = omega arith in
+      let next : Remaining (record_checks kind p batch house) (n + 1) (length p / 64) = r0 ∙ rw (run_next (record_checks kind p batch house) n (length p / 64) l) (first_past (record_checks kind p batch house n) _ q) in
+      rw e at (run-by kind p batch house t none (length p / 64) r (r - suc n) n (rw (add-one n) at c) (omega arith) (omega arith) (placed kind p batch house n q) (sym b) (rw (add-one n) at next)).1

@@ -17,7 +17,8 @@ use Rattle.packing.specs.Packing.{packing_checks}
 use Rattle.schema.specs.Records.{records_of}
 use Rattle.packing.specs.Starts.{reaches, first_reaching, table_starts}
 use Rattle.packing.specs.TableRows.{IsRow, RowsByByte}
-use Rattle.packing.proofs.TableStarts.{not-reached, starts-at, starts_from, starts-within, some_record}
+use Rattle.packing.proofs.TableStarts.{not-reached, starts-at, starts_from, starts-within}
+use Rattle.packing.proofs.Records.{records_all, some_record}
 use Rattle.packing.proofs.Packed.{fits, rows_above, rise}
 
 module _ (p : List ℕ) (t : ℕ) where
@@ -42,6 +43,9 @@ module _ (p batch house : List ℕ) (h : first (packing_checks Enclave p batch h
   some : 1 ≤ records_of p
   some = let f = fits Enclave p batch house h in some_record p f.some f.whole
 
+  all : records_of p ≡ length p / 64
+  all = records_all p (fits Enclave p batch house h).few
+
   row_table : (n : ℕ) → 1 ≤ n → n < length p / 64 → 2 ≤ byte_of p n 0
   row_table zero l u = absurd (omega arith)
   row_table (suc n) l u = (rows_above p batch house h n u).0
@@ -51,6 +55,7 @@ module _ (p batch house : List ℕ) (h : first (packing_checks Enclave p batch h
   from_start t n k l u =
       let e = starts-at p 1 t k in
       let f = starts_from p 1 t k in
+      let r = all in
       let low = row_table (start t) f (omega arith) in
       let a = at_first p t (records_of p) 1 (rw (sym e) (omega arith)) in
       let b = rise p batch house h (start t) n l u in
@@ -64,6 +69,7 @@ module _ (p batch house : List ℕ) (h : first (packing_checks Enclave p batch h
   row_is t n k r =
       let f = starts_from p 1 t (omega arith) in
       let w = starts-within p 1 (t + 1) (omega arith) some in
+      let e = all in
       let l : (1 ≤ n) × (n < length p / 64) = (omega (arith, r.0), omega (arith, r.1)) in
       let a = from_start t n (omega arith) r.0 l.1 in
       let b = before_start (t + 1) n (omega arith) l.0 r.1 in

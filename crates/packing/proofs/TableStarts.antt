@@ -9,10 +9,12 @@ use lib.Dec.{ltb, leb}
 use lib.ListN.{length, get_or, take, set, length-set, length-append, get_or-append}
 use lib.Seq.{get_or_at, take-suc-set, take_all}
 use borrow.Author.Tests.{ltb-true, ltb-false, leb-false, lt-leb}
-use Rattle.identity.proofs.Tests.{cases}
+use Rattle.identity.proofs.Tests.{cases, below_or_not}
 use Rattle.schema.specs.Rows.{byte_of}
 use Rattle.schema.specs.Tables.{IsRising, EndsInside}
 use Rattle.schema.specs.Records.{records_of}
+use Rattle.packing.proofs.Records.{records_inside, records_few, some_record}
+use Rattle.packing.specs.Runs.{FixedAt, starts_at}
 use Rattle.packing.specs.Starts.{reaches, first_reaching, table_start, starts_below, table_starts}
 
 reaching : (a b : Bool) (d e : ℕ) → not a || (b || leb d e) ≡ false → (a ≡ true) × (e < d)
@@ -21,9 +23,6 @@ reaching true false d e h = (refl, leb-false d e h)
 reaching false b d e h = absurd (true≢false h)
 
 module _ (p : List ℕ) where
-  pub records_few : length p ≤ 4194304 → records_of p ≤ 65536
-  records_few l = omega arith
-
   -- a record that does not reach table t lies inside and is of an earlier one
   pub not-reached : (t k : ℕ) → reaches p t k ≡ false → (k < records_of p) × (byte_of p k 0 < t)
   not-reached t k h =
@@ -86,8 +85,9 @@ module _ (p : List ℕ) where
   pub search_inside : (t a : ℕ) → reaches p t a ≡ false → a < records_of p
   search_inside t a r = (not-reached t a r).0
 
-  pub search_within : (t a : ℕ) → a ≤ records_of p → first_reaching p t a (records_of p) ≤ records_of p
-  search_within t a l = first-within t (records_of p) a l
+  -- the number after such a record is a small one
+  pub search_small : (t a : ℕ) → reaches p t a ≡ false → a < 65536
+  search_small t a r = let g = (not-reached t a r).0 in let h = records_few p in omega arith
 
   -- a later table is searched for from where an earlier one begins
   search_on : (t u f a : ℕ) → t ≤ u → first_reaching p u (first_reaching p t a f) (records_of p) ≡ first_reaching p u a (records_of p)
@@ -98,7 +98,7 @@ module _ (p : List ℕ) where
       (λ r. rw r)
       (λ r. rw r (search_on t u f (a + 1) l ∙ sym (search_next u a (not-later t u a l r))))
 
-pub ruleset search_laws = (search_next, search_found, search_inside)
+pub ruleset search_laws = (search_next, search_found, search_inside, search_small)
 
 -- the list of starts
 below_length : (p : List ℕ) (rows k : ℕ) → length (starts_below p rows k) ≡ k
@@ -134,46 +134,47 @@ module _ (p : List ℕ) (rows : ℕ) where
       rw (starts-at t m, starts-at u h) (first-rises p t u (records_of p) rows l)
 
 -- the loop over the tables: s holds the starts of those below t, and the others are searched for from record k on
-pub record Filled (p s : List ℕ) (t k : ℕ) : Type 0 where
+pub record Filled (p : List ℕ) (rows : ℕ) (s : List ℕ) (t k : ℕ) : Type 0 where
   pub sized : length s ≡ 26
-  pub done : take t s ≡ starts_below p 1 t
-  pub within : k ≤ records_of p
-  pub ahead : (u : ℕ) → t ≤ u → first_reaching p u k (records_of p) ≡ table_start p 1 u
+  pub done : take t s ≡ starts_below p rows t
+  pub ahead : (u : ℕ) → t ≤ u → first_reaching p u k (records_of p) ≡ table_start p rows u
 
-pub filled_none : (p s : List ℕ) → length s ≡ 26 → 1 ≤ records_of p → Filled p s 0 1
+pub filled_none : (p : List ℕ) (rows : ℕ) (s : List ℕ) → length s ≡ 26 → Filled p rows s 0 rows
 unfolding starts_below
-filled_none p s e h = record { sized = e; done = refl; within = h; ahead = λ u l. refl }
+filled_none p rows s e = record { sized = e; done = refl; ahead = λ u l. refl }
 
-pub filled_next : (p s : List ℕ) (t k m : ℕ) → Filled p s t k → t < 26 → m ≡ first_reaching p t k (records_of p) → Filled p (set s t m) (t + 1) m
+pub filled_next : (p : List ℕ) (rows : ℕ) (s : List ℕ) (t k m : ℕ) → Filled p rows s t k → t < 26 → m ≡ first_reaching p t k (records_of p) → Filled p rows (set s t m) (t + 1) m
 unfolding starts_below
-filled_next p s t k m f h e =
+filled_next p rows s t k m f h e =
     let z = f.sized in
     let l : t < length s = omega arith in
     record {
       sized = simp length-set z;
       done = rw (add-one, take-suc-set s t m l, f.done, e, f.ahead t (omega arith));
-      within = rw e (search_within p t k f.within);
       ahead = λ u g. rw e (search_on p t u (records_of p) k (omega arith)) ∙ f.ahead u (omega arith);
     }
 
-pub filled_all : (p s : List ℕ) (t k : ℕ) → Filled p s t k → 26 ≤ t → t ≤ 26 → s ≡ table_starts p 1
+pub filled_all : (p : List ℕ) (rows : ℕ) (s : List ℕ) (t k : ℕ) → Filled p rows s t k → 26 ≤ t → t ≤ 26 → s ≡ table_starts p rows
 unfolding table_starts
-filled_all p s t k f h l =
+filled_all p rows s t k f h l =
     let z = f.sized in
     let e : t ≡ 26 = omega arith in
     sym (take_all 26 s (omega arith)) ∙ (rw e at f.done)
 
-pub filled_few : (p s : List ℕ) (t k : ℕ) → Filled p s t k → length p ≤ 4194304 → k ≤ 65536
-filled_few p s t k f l = let a = f.within in let b = records_few p l in omega arith
+-- the loop that fixes the starts of the tables from t on
+pub fixed_none : (k last t : ℕ) (s : List ℕ) → FixedAt k last t s t s
+unfolding starts_at
+fixed_none k last t s =
+    let z : t - t ≡ 0 = omega arith in
+    record { after = omega arith; these = λ j l h. absurd (omega arith); is = rw z }
 
-pub filled_within : (p s : List ℕ) (t k : ℕ) → Filled p s t k → k ≤ records_of p
-filled_within p s t k f = f.within
-
--- a pack with a record has one that is looked at
-pub some_record : (p : List ℕ) → 0 < length p → length p % 64 ≡ 0 → 1 ≤ records_of p
-some_record p h w = omega arith
-
-pub ruleset start_laws = (filled_none, filled_next, filled_all, filled_few, filled_within, some_record, search_within, records_few)
+pub fixed_next : (k last t : ℕ) (s : List ℕ) (r : ℕ) (w : List ℕ) → FixedAt k last t s r w → r ≤ last → FixedAt k last t s (r + 1) (set w r k)
+unfolding starts_at
+fixed_next k last t s r w f h =
+    let a = f.after in
+    let m : r + 1 - t ≡ suc (r - t) = omega arith in
+    let n : t + (r - t) ≡ r = omega arith in
+    record { after = omega arith; these = λ j l g. below_or_not j r (λ b. f.these j l b) (λ b. omega arith); is = rw (m, n, f.is) }
 
 -- an enclave's tables rise, and end inside its pack
 pub starts_rising : (p s : List ℕ) → s ≡ table_starts p 1 → IsRising s
@@ -182,6 +183,7 @@ starts_rising p s e t h = rw e (starts-rise p 1 t (t + 1) (omega arith) (omega a
 pub starts_inside : (p s : List ℕ) → s ≡ table_starts p 1 → 0 < length p → length p % 64 ≡ 0 → EndsInside p s
 starts_inside p s e h w =
     let a = starts-within p 1 25 (omega arith) (some_record p h w) in
+    let b = records_inside p in
     rw e (omega arith)
 
 pub ruleset enclave_laws = (starts_rising, starts_inside)

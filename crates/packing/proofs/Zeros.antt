@@ -1,6 +1,6 @@
 -- Bytes that are zero, by their number and by parts. Assumes nothing.
 use Prim.Native.Nat.{ℕ, zero, suc, ◌+◌, ◌*◌, ◌-◌, ◌%◌, ◌≤◌}
-use mathlib.Core.Bool.{true, false, ◌&&◌, ◌||◌, and-true, and_assoc}
+use mathlib.Core.Bool.{Bool, true, false, ◌&&◌, ◌||◌, and-true, and_assoc}
 use mathlib.Core.Path.{◌≡◌, refl, ◌∙◌, sym}
 use mathlib.Core.List.{List}
 use native.Mathlib.Nat.{add-zero, add-suc}
@@ -65,6 +65,10 @@ zeros_word p o u j w =
     let a : (j + 1) * 4 - u ≡ (j * 4 - u) + 4 = omega arith in
     let b : (o + u) + (j * 4 - u) ≡ o + j * 4 = omega arith in
     rw (f, a, zeros-add p (o + u) (j * 4 - u) 4, b, zeros_number p (o + j * 4) 4) refl)
+
+-- two halves
+pub zeros_twice : (p : List ℕ) (o k m : ℕ) (a b : Bool) → a ≡ zeros p o k → b ≡ zeros p (o + k) k → m ≡ k + k → a && b ≡ zeros p o m
+zeros_twice p o k m a b e f h = rw (e, f, h) (sym (zeros-add p o k k))
 
 pub ruleset word_laws = (zeros_none, zeros_word)
 

@@ -3,7 +3,6 @@ use Rattle.std.specs.Prelude.{ℕ, zero, suc, ◌+◌, ◌*◌, ◌-◌, Bool, t
 use Rattle.schema.specs.Layout as layout
 use Rattle.schema.specs.Layout.{Layout, offset}
 use Rattle.schema.specs.Rows.{byte_of, bit_of}
-use Rattle.schema.specs.Records.{is_of}
 use Rattle.packing.specs.Shape.{layout_of, used, governed_offset, governed_bytes}
 
 -- the k bytes of p from o are zero
@@ -33,6 +32,10 @@ timing_clean p n =
 abbrev pub effect_clean : List ℕ → ℕ → Bool
 effect_clean p n = bit_of (byte_of p n 1) 1 || eqb (byte_of p n 2) 0
 
+-- bytes 1 to 3 of record n and the fields that bits govern are as layout l has them
+abbrev pub fields_clean : Layout → List ℕ → ℕ → Bool
+fields_clean l p n = head_clean l p n && (absent_clean 0 l p n && absent_clean 1 l p n)
+
 -- what document 01 says of tables 3 and 5 beside their fields
 abbrev pub kind_clean : ℕ → List ℕ → ℕ → Bool
 kind_clean t p n = cond (eqb t 3) (timing_clean p n) (cond (eqb t 5) (effect_clean p n) true)
@@ -42,8 +45,3 @@ clean_by l p n = head_clean l p n && (tail_clean l p n && (absent_clean 0 l p n 
 
 unfoldable pub clean : List ℕ → ℕ → Bool
 clean p n = clean_by (layout_of (byte_of p n 0)) p n && kind_clean (byte_of p n 0) p n
-
--- the first of the records n, n + 1, .. that is not a clean one of table t, k looked at
-unfoldable pub run_from : List ℕ → ℕ → ℕ → ℕ → ℕ
-run_from p t n zero = n
-run_from p t n (suc k) = cond (is_of p t n && clean p n) (run_from p t (n + 1) k) n

@@ -3,4 +3,5 @@ pub mod Records
 pub mod Clean
 pub mod Packing
 pub mod Starts
+pub mod Runs
 pub mod TableRows

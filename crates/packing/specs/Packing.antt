@@ -1,5 +1,5 @@
 -- The packing rules in their order (document 01, "The pack" and "Packing"). Assumes nothing.
-use Rattle.std.specs.Prelude.{ℕ, zero, suc, ◌*◌, ◌/◌, ◌%◌, Bool, ◌&&◌, ◌||◌, ◌≡◌, List, [], ◌∷◌, ltb, leb, eqb, length}
+use Rattle.std.specs.Prelude.{ℕ, zero, suc, ◌*◌, ◌/◌, ◌%◌, ◌<◌, ◌≤◌, Bool, ◌&&◌, ◌||◌, ◌≡◌, List, [], ◌∷◌, ltb, leb, eqb, length}
 use Rattle.identity.specs.declared.IdentityPlace.{IdentityPlace}
 use Rattle.identity.specs.Utf8.{utf8}
 use Rattle.identity.specs.Text.{place_inside, identity_text}
@@ -72,3 +72,8 @@ pack_outcome (answer.Refused r) = Refused r
 abbrev pub IsLent : List ℕ → PackAnswer → Type 0
 IsLent p (answer.Pack pack) = pack.bytes.now ≡ p
 IsLent p (answer.Refused r) = Unit {0}
+
+-- it has a record, and no more bytes than the limit
+abbrev pub FitsLimit : PackAnswer → Type 0
+FitsLimit (answer.Pack pack) = (0 < length pack.bytes.now) × (length pack.bytes.now ≤ 4194304)
+FitsLimit (answer.Refused r) = Unit {0}

@@ -1,6 +1,7 @@
 #![tactic(auto)]
 // The packing rules of a pack, record by record, and where each table of an enclave begins.
 pub mod clean;
+pub mod rows;
 pub mod rules;
 pub mod shape;
 pub mod starts;

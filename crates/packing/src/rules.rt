@@ -1,19 +1,21 @@
 // The packing rules: lengths, then record by record the table's place, stray bytes, and each identity's text.
-ghost use Rattle.std.specs.Prelude.{◌≡◌, ◌/◌, ◌<◌, length};
+ghost use Rattle.std.specs.Prelude.{◌≡◌, ◌/◌, ◌<◌, ◌≤◌, length};
 ghost use Rattle.answers.specs.Checks.{first, run};
 ghost use Rattle.schema.specs.Rows.{byte_of};
 ghost use Rattle.packing.specs.Shape.{layout_of};
-ghost use Rattle.packing.specs.Packing.{row_after, first_table, table_after, in_place, identity_at, identity_checks, record_checks, packing_checks, pack_outcome, IsLent};
+ghost use Rattle.packing.specs.Packing.{row_after, first_table, table_after, in_place, identity_at, identity_checks, record_checks, packing_checks, pack_outcome, IsLent, FitsLimit};
+ghost use Rattle.packing.specs.Starts.{starts_after};
 
-use crate::clean::{clean, run_of};
+use crate::clean::{clean, past_clean};
 use crate::shape::shape_of;
-use crate::walker::{Record, Walker};
+use crate::starts::table_starts;
+use crate::walker::{Record, walker_at};
 use crate::{PackAnswer, PackKind};
 use answers::{Outcome, Refusal};
 use identity::IdentityPlace;
 use identity::place::{identity_text, place_inside};
 use identity::scan::is_utf8;
-use schema::lent::{PACK_LIMIT, Pack, TABLES, has_bit};
+use schema::lent::{PACK_LIMIT, Pack, TABLES, TableStarts, has_bit};
 
 const TEXT_LIMIT: usize = 65_536;
 
@@ -71,6 +73,7 @@ fn identity_at(pack: Pack, n: usize, j: u8) -> IdentityPlace
 #[tactic(auto, unfolding(answers::specs::Checks::first, crate::specs::Packing::identity_checks))]
 fn check_identity(pack: Pack, batch: &[u8], house: &[u8], n: usize, j: u8) -> Outcome
     requires inside { n < length pack.bytes.now / 64 }
+    requires few { length pack.bytes.now ≤ 4194304 }
     requires named { j < (layout_of (byte_of pack.bytes.now n 0)).identities }
     ensures { result ≡ first (identity_checks pack.entry.bytes.now batch.now house.now n j) }
 {
@@ -88,6 +91,7 @@ fn check_identity(pack: Pack, batch: &[u8], house: &[u8], n: usize, j: u8) -> Ou
 #[tactic(auto, using(answers::proofs::Loops::run_laws))]
 fn check_identities(pack: Pack, batch: &[u8], house: &[u8], n: usize, count: u8) -> Outcome
     requires inside { n < length pack.bytes.now / 64 }
+    requires few { length pack.bytes.now ≤ 4194304 }
     requires all { count ≡ (layout_of (byte_of pack.bytes.now n 0)).identities }
     ensures { result ≡ first (run (identity_checks pack.entry.bytes.now batch.now house.now n) 0 count) }
 {
@@ -111,24 +115,27 @@ fn check_record(
     table: u8,
 ) -> Outcome
     requires inside { n < length pack.bytes.now / 64 }
+    requires few { length pack.bytes.now ≤ 4194304 }
     requires own { table ≡ byte_of pack.bytes.now n 0 }
     ensures { result ≡ first (record_checks kind pack.entry.bytes.now batch.now house.now n) }
 {
     if !in_place(kind, pack, n, table) {
         return Outcome::Refused(Refusal::TableOutOfPlace { record: n as u32 });
     }
-    if !clean(pack, n, table) {
+    let shape = shape_of(table);
+    if !clean(pack.bytes, n, table, shape) {
         return Outcome::Refused(Refusal::StrayByte { record: n as u32 });
     }
-    check_identities(pack, batch, house, n, shape_of(table).identities)
+    check_identities(pack, batch, house, n, shape.identities)
 }
 
 // The checks of all records, as the walker yields them. Where a table has no identities, the clean records of it that follow pass.
 #[tactic(auto, using(answers::proofs::Loops::run_laws))]
 fn check_records(kind: PackKind, pack: Pack, batch: &[u8], house: &[u8]) -> Outcome
+    requires { length pack.bytes.now ≤ 4194304 }
     ensures { let p = pack.entry.bytes.now in result ≡ first (run (record_checks kind p batch.now house.now) 0 (length p / 64)) }
 {
-    let mut walker = Walker { pack, place: 0 };
+    let mut walker = walker_at(pack.bytes, 0);
     loop {
         let n = walker.place;
         let record = walker.step();
@@ -139,8 +146,9 @@ fn check_records(kind: PackKind, pack: Pack, batch: &[u8], house: &[u8]) -> Outc
         let Outcome::Passed = outcome else {
             return outcome;
         };
-        if shape_of(table).identities == 0 {
-            walker.place = run_of(pack, table, n + 1);
+        let shape = shape_of(table);
+        if shape.identities == 0 {
+            walker.place = past_clean(pack.bytes, n + 1, table, shape, pack.records());
         }
     }
 }
@@ -155,6 +163,7 @@ pub fn check_packing<'a>(
 ) -> PackAnswer<'a>
     ensures outcome { pack_outcome result ≡ first (packing_checks kind bytes.now batch.now house.now) }
     ensures lent { IsLent bytes.now result }
+    ensures fits { FitsLimit result }
 {
     let len = bytes.len();
     if len == 0 || PACK_LIMIT < len || len % 64 != 0 {
@@ -170,5 +179,24 @@ pub fn check_packing<'a>(
     match check_records(kind, pack, batch, house) {
         Outcome::Passed => PackAnswer::Pack(pack),
         Outcome::Refused(r) => PackAnswer::Refused(r),
+    }
+}
+
+// The rules of an enclave's pack. Where it passes, `starts` holds where its tables begin; else it is left as it was.
+pub fn check_enclave_packing(
+    pack: &[u8],
+    batch: &[u8],
+    house: &[u8],
+    starts: &mut TableStarts,
+) -> Outcome
+    ensures value { result ≡ first (packing_checks PackKind.Enclave pack.now batch.now house.now) }
+    ensures starts_after { starts.new ≡ starts_after result pack.now starts.old }
+{
+    match check_packing(PackKind::Enclave, pack, batch, house) {
+        PackAnswer::Pack(_) => {
+            *starts = table_starts(pack, 1);
+            Outcome::Passed
+        }
+        PackAnswer::Refused(r) => Outcome::Refused(r),
     }
 }

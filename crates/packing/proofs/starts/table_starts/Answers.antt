@@ -1,13 +1,13 @@
 -- The starts are filled in from table to table.
 use Rattle.std.proofs.Common.{refl, arith}
-use Rattle.packing.proofs.TableStarts.{filled_none, filled_next, filled_all, some_record}
+use Rattle.packing.proofs.TableStarts.{filled_none, filled_next, filled_all}
 use Rattle.packing.proofs.starts.table_starts.Goals as goal
 
 pub loop-t-init : goal.loop-t-init
-loop-t-init c = filled_none c.args.pack.bytes.now _ refl (some_record c.args.pack.bytes.now c.args.pack.some c.args.pack.whole)
+loop-t-init c = filled_none c.args.p.now c.args.rows _ refl
 
 pub loop-t-preserved : goal.loop-t-preserved
-loop-t-preserved c = filled_next _ _ _ _ _ c.loop-t.invariant c.loop-t-test.true c.first_reaching-k.ensures
+loop-t-preserved c = filled_next _ _ _ _ _ _ c.loop-t.invariant c.loop-t-test.true c.first_reaching-k.ensures
 
 pub returns : goal.returns
-returns c = filled_all _ _ _ _ c.loop-t.invariant (omega arith) (omega arith)
+returns c = filled_all _ _ _ _ _ c.loop-t.invariant (omega arith) (omega arith)
