@@ -65,6 +65,6 @@ pub fn check_enclave<'a>(pack: &'a [u8], batch: &'a [u8], house: &'a [u8]) -> En
         PackAnswer::Pack(pack) => pack,
         PackAnswer::Refused(r) => return EnclaveAnswer::Refused(r),
     };
-    let starts = table_starts(pack);
+    let starts = table_starts(pack.bytes, 1);
     check_image(enclave(pack, &starts, batch, house))
 }

@@ -4,8 +4,8 @@ ghost use Rattle.packing.specs.Runs.{RowTable, RowsPast};
 
 use crate::clean::{clean, past_clean, wide};
 use crate::shape::{LAST_LIST, shape_of};
-use crate::walker::byte_of;
 use schema::lent::TableStarts;
+use schema::read::byte_of;
 
 // How far from n on the records are clean, of `table` and of such tables right after one another. The starts of the tables after `table` are written.
 #[tactic(auto, using(crate::proofs::RowRuns::row_laws))]

@@ -4,8 +4,8 @@ ghost use Rattle.packing.specs.Runs.{FixedAt};
 ghost use Rattle.schema.specs.Records.{records_of};
 ghost use Rattle.packing.specs.Starts.{reaches, first_reaching, table_starts};
 
-use crate::walker::byte_of;
 use schema::lent::{Enclave, Pack, TABLES, TableStarts, records_of};
+use schema::read::byte_of;
 
 // Whether record k is table t's first in its enclave, or past it.
 fn reaches(p: &[u8], t: usize, k: u32) -> bool
