@@ -19,7 +19,7 @@ use Rattle.enclave.specs.Passes.{enclave_checks}
 use Rattle.enclave.specs.Answer.{answer_of, outcome_answer, image_result}
 use Rattle.federate.specs.Records.{enclaves_before, enclave_before, enclave_from, enclave_pack}
 use Rattle.federate.specs.Enclaves.{image_at, order_checks, record_checks, links_before}
-use Rattle.schema.proofs.Counts.{count_next}
+use Rattle.schema.proofs.Counts.{count_next, records_inside, records_few}
 use Rattle.federate.proofs.Ends.{from_next, from_found, from_over, end-within, part-length}
 
 -- what an answer tells of the checks and the count it comes from
@@ -68,9 +68,11 @@ unfolding first_reaching
 first-near p t zero a = omega arith
 first-near p t (suc f) a = either (reaches p t a) _ a f (first-near p t f (a + 1))
 
--- the links of an enclave of a pack within the limit fit 33 bits
-links-few : (p batch house : List ℕ) (n : ℕ) → n < records_of p → records_of p ≤ 65536 → links (image_at p batch house n) ≤ 65537 * 65537
-links-few p batch house n l few =
+-- the links of an enclave fit 33 bits
+links-few : (p batch house : List ℕ) (n : ℕ) → n < records_of p → links (image_at p batch house n) ≤ 65537 * 65537
+links-few p batch house n l =
+    let few = records_few p in
+    let inside = records_inside (enclave_pack p n) in
     let m = image_at p batch house n in
     let own = enclave_pack p n in
     let w = end-within p n l in
@@ -157,7 +159,7 @@ module _ (p batch house : List ℕ) (start : ℕ) where
   pub before_start : Before p batch house start (enclave_from p 0 (records_of p - 0)) 0 0 0
   before_start = before_gap 0 0 0 0 (before-zero p batch house start)
 
-  module _ (n place before sum : ℕ) (b : Before p batch house start n place before sum) (l : n < records_of p) (few : records_of p ≤ 65536) (e : is_of p 1 n ≡ true) where
+  module _ (n place before sum : ℕ) (b : Before p batch house start n place before sum) (l : n < records_of p) (e : is_of p 1 n ≡ true) where
     pub before_refused : (r : Refusal) → answer.Refused r ≡ answer_of (checks-at n) (links (image_at p batch house n)) → answer.Refused r ≡ answer_of (first (run (record_checks p batch house start) 0 (records_of p))) (links_before p batch house (records_of p))
     before_refused r d =
         let f = refused-so (checks-at n) _ r d in
@@ -169,17 +171,18 @@ module _ (p batch house : List ℕ) (start : ℕ) where
 
       pub before_fits : sum + k < 2 ^ 64
       before_fits =
-          let few1 = b.few in
-          let x = links-few p batch house n l few in
+          let few = b.few in
+          let most = records_few p in
+          let x = links-few p batch house n l in
           let y = found.1 in
           omega arith
 
       more : Before p batch house start (n + 1) (place + 1) n (sum + k)
       unfolding enclave_before links_before
       more =
-          let few1 = b.few in
+          let few = b.few in
           let placed = b.placed in
-          let x = links-few p batch house n l few in
+          let x = links-few p batch house n l in
           let y = found.1 in
           record {
             within = omega arith;

@@ -2,6 +2,7 @@
 use Rattle.std.proofs.Common.{ℕ, zero, suc, ◌+◌, ◌-◌, ◌*◌, ◌%◌, ◌<◌, ◌≤◌, Bool, true, false, cond, ◌≡◌, refl, ap, List, length, take, drop, length-drop, add-one, arith}
 use Rattle.std.proofs.Math.Seq.{length-take-le}
 use Rattle.schema.specs.Records.{records_of, is_of}
+use Rattle.schema.proofs.Counts.{records_inside}
 use Rattle.federate.specs.Records.{enclave_from, enclave_end, enclave_pack}
 
 -- looking for the next enclave's record
@@ -43,14 +44,14 @@ module _ (p : List ℕ) (n end : ℕ) (l : n < records_of p) (e : end ≡ enclav
   part_start = let a = (end-within p n l).0 in omega arith
 
   pub part_end : end * 64 ≤ length p
-  part_end = let a = (end-within p n l).1 in omega arith
+  part_end = let a = (end-within p n l).1 in let i = records_inside p in omega arith
 
   pub part_is : take (end * 64 - n * 64) (drop (n * 64) p) ≡ enclave_pack p n
   part_is =
       let q : end * 64 - n * 64 ≡ (enclave_end p n - n) * 64 = omega arith in
       ap (λ (k : ℕ). take k (drop (n * 64) p)) q
 
--- of whole records, its own at least
+-- of whole records
 pub part-length : (p : List ℕ) (n : ℕ) → n < records_of p → length (enclave_pack p n) ≡ (enclave_end p n - n) * 64
 part-length p n l =
     let a = part_start p n (enclave_end p n) l refl in
@@ -61,14 +62,10 @@ part-length p n l =
 pub part_whole : (p : List ℕ) (n end : ℕ) → n < records_of p → end ≡ enclave_end p n → length (take (end * 64 - n * 64) (drop (n * 64) p)) % 64 ≡ 0
 part_whole p n end l e = rw (part_is p n end l e, part-length p n l) (omega arith)
 
-pub part_some : (p : List ℕ) (n end : ℕ) → n < records_of p → end ≡ enclave_end p n → 0 < length (take (end * 64 - n * 64) (drop (n * 64) p))
-part_some p n end l e =
+-- and it has its own record
+pub part_some : (p : List ℕ) (n : ℕ) → n < records_of p → 0 < length (enclave_pack p n)
+part_some p n l =
     let a = (end-within p n l).0 in
-    rw (part_is p n end l e, part-length p n l) (omega arith)
+    rw (part-length p n l) (omega arith)
 
-pub part_limited : (p : List ℕ) (n end : ℕ) → n < records_of p → end ≡ enclave_end p n → length p ≤ 4194304 → length (take (end * 64 - n * 64) (drop (n * 64) p)) ≤ 4194304
-part_limited p n end l e h =
-    let a = (end-within p n l).1 in
-    rw (part_is p n end l e, part-length p n l) (omega arith)
-
-pub ruleset part_laws = (part_start, part_end, part_is, part_whole, part_some, part_limited)
+pub ruleset part_laws = (part_start, part_end, part_is, part_whole)

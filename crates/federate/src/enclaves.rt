@@ -6,14 +6,14 @@ ghost use Rattle.enclave.specs.Answer.{image_result};
 ghost use Rattle.federate.specs.Records.{enclaves_before, enclave_before, enclave_end};
 ghost use Rattle.federate.specs.Enclaves.{index_from, image_at, order_checks, record_answer, enclaves_answer};
 
-use crate::records::{enclave_pack, next_enclave};
+use crate::records::{enclave_pack_to, next_enclave};
 use answers::{Outcome, kind};
 use checks::identities::validate_text_order;
 use enclave::EnclaveAnswer;
 use enclave::check::{check_image, refused};
 use identity::place::identity_text;
 use packing::starts::{enclave, table_starts};
-use schema::lent::Pack;
+use schema::lent::{Pack, records_of};
 use schema::rows::EnclaveImage;
 
 const KEYS: u64 = 0x1_0000_0000;
@@ -26,12 +26,13 @@ fn index_from(start: u64, place: u32) -> u32
 }
 
 // The answer of the enclave of record n, which ends at record `end`, by its own pack.
+#[tactic(auto, using(crate::proofs::Ends::part_some))]
 fn check_enclave_at(pack: Pack, batch: &[u8], house: &[u8], n: usize, end: usize) -> EnclaveAnswer
     requires inside { n < records_of pack.bytes.now }
     requires own { end ≡ enclave_end pack.bytes.now n }
     ensures { result ≡ image_result (image_at pack.entry.bytes.now batch.now house.now n) }
 {
-    let own = enclave_pack(pack, n, end);
+    let own = enclave_pack_to(pack, n, end);
     let starts = table_starts(own);
     check_image(enclave(own, &starts, batch, house))
 }
@@ -104,11 +105,12 @@ pub fn validate_federate_enclaves(
 ) -> EnclaveAnswer
     ensures { result ≡ enclaves_answer pack.entry.bytes.now batch.now house.now start }
 {
+    let records = records_of(pack.bytes) as usize;
     let mut links = 0u64;
     let mut place = 0u32;
     let mut before = 0usize;
     let mut n = next_enclave(pack, 0);
-    while n < pack.records() {
+    while n < records {
         let end = next_enclave(pack, n + 1);
         let own = match check_record(pack, batch, house, start, n, end, place, before) {
             EnclaveAnswer::Accepted { links } => links,

@@ -3,23 +3,24 @@ ghost use Rattle.std.specs.Prelude.{◌≡◌, ◌-◌, ◌<◌, ◌≤◌};
 ghost use Rattle.schema.specs.Records.{records_of};
 ghost use Rattle.federate.specs.Records.{enclaves_of, enclave_from, enclave_end, enclave_pack};
 
-use schema::lent::Pack;
+use schema::lent::{Pack, records_of};
 use schema::rows::EnclaveImage;
 
+#[tactic(auto, using(schema::proofs::Counts::counted_few))]
 pub fn count_enclaves(pack: Pack) -> u32
     ensures { result ≡ enclaves_of pack.entry.bytes.now }
 {
     pack.count_of(EnclaveImage::TABLE) as u32
 }
 
-// The first enclave's record from n on, or the end of the pack.
+// The first enclave's record from n on; where there is none, the number of records, or n past it.
 #[tactic(auto, using(crate::proofs::Ends::from_laws))]
 pub fn next_enclave(pack: Pack, n: usize) -> usize
-    requires { n ≤ records_of pack.bytes.now }
     ensures { let p = pack.entry.bytes.now in result ≡ enclave_from p n (records_of p - n) }
 {
+    let records = records_of(pack.bytes) as usize;
     let mut k = n;
-    while k < pack.records() && !pack.is_of(EnclaveImage::TABLE, k) {
+    while k < records && !pack.is_of(EnclaveImage::TABLE, k) {
         k += 1;
     }
     k
@@ -27,7 +28,7 @@ pub fn next_enclave(pack: Pack, n: usize) -> usize
 
 // The pack of the enclave of record n, which ends at record `end`.
 #[tactic(auto, using(crate::proofs::Ends::part_laws))]
-pub fn enclave_pack<'a>(pack: Pack<'a>, n: usize, end: usize) -> Pack<'a>
+pub fn enclave_pack_to<'a>(pack: Pack<'a>, n: usize, end: usize) -> Pack<'a>
     requires inside { n < records_of pack.bytes.now }
     requires own { end ≡ enclave_end pack.bytes.now n }
     ensures { result.bytes.now ≡ enclave_pack pack.entry.bytes.now n }
@@ -35,4 +36,12 @@ pub fn enclave_pack<'a>(pack: Pack<'a>, n: usize, end: usize) -> Pack<'a>
     Pack {
         bytes: &pack.bytes[n * 64..end * 64],
     }
+}
+
+// The pack of the enclave of record n: its records up to its end.
+pub fn enclave_pack<'a>(pack: Pack<'a>, n: usize) -> Pack<'a>
+    requires { n < records_of pack.bytes.now }
+    ensures { result.bytes.now ≡ enclave_pack pack.entry.bytes.now n }
+{
+    enclave_pack_to(pack, n, next_enclave(pack, n + 1))
 }

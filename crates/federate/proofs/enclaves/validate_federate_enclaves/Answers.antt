@@ -15,12 +15,12 @@ loop-n-init c =
 pub returns-in-Refused : goal.returns-in-Refused
 returns-in-Refused c =
     let l : c.loop-n.n < records_of c.args.pack.bytes.now = omega arith in
-    before_refused c.args.pack.bytes.now c.args.batch.now c.args.house.now c.args.start c.loop-n.n c.loop-n.place c.loop-n.before c.loop-n.links c.loop-n.invariant.known l (omega arith) (c.loop-n.invariant.enclave l) c.in-Refused.r c.in-Refused.ensures
+    before_refused c.args.pack.bytes.now c.args.batch.now c.args.house.now c.args.start c.loop-n.n c.loop-n.place c.loop-n.before c.loop-n.links c.loop-n.invariant.known l (c.loop-n.invariant.enclave l) c.in-Refused.r c.in-Refused.ensures
 
 pub overflow_add-links : goal.overflow_add-links
 overflow_add-links c =
     let l : c.loop-n.n < records_of c.args.pack.bytes.now = omega arith in
-    let h = before_fits c.args.pack.bytes.now c.args.batch.now c.args.house.now c.args.start c.loop-n.n c.loop-n.place c.loop-n.before c.loop-n.links c.loop-n.invariant.known l (omega arith) (c.loop-n.invariant.enclave l) c.in-Accepted.links c.in-Accepted.ensures in
+    let h = before_fits c.args.pack.bytes.now c.args.batch.now c.args.house.now c.args.start c.loop-n.n c.loop-n.place c.loop-n.before c.loop-n.links c.loop-n.invariant.known l (c.loop-n.invariant.enclave l) c.in-Accepted.links c.in-Accepted.ensures in
     omega arith
 
 pub loop-n-smaller : goal.loop-n-smaller
@@ -36,7 +36,7 @@ loop-n-preserved c =
     let p = c.args.pack.bytes.now in
     let l : c.loop-n.n < records_of p = omega arith in
     record {
-      known = before_more c.args.pack.bytes.now c.args.batch.now c.args.house.now c.args.start c.loop-n.n c.loop-n.place c.loop-n.before c.loop-n.links c.loop-n.invariant.known l (omega arith) (c.loop-n.invariant.enclave l) c.in-Accepted.links c.in-Accepted.ensures c.next_enclave-end.result c.next_enclave-end.ensures;
+      known = before_more c.args.pack.bytes.now c.args.batch.now c.args.house.now c.args.start c.loop-n.n c.loop-n.place c.loop-n.before c.loop-n.links c.loop-n.invariant.known l (c.loop-n.invariant.enclave l) c.in-Accepted.links c.in-Accepted.ensures c.next_enclave-end.result c.next_enclave-end.ensures;
       enclave = λ m. rw c.next_enclave-end.ensures (enclave_found c.args.pack.bytes.now c.args.batch.now c.args.house.now c.args.start (c.loop-n.n + 1) (omega arith) (rw c.next_enclave-end.ensures at m));
     }
 
