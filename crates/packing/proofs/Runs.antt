@@ -15,7 +15,7 @@ use Rattle.packing.specs.Shape.{layout_of}
 use Rattle.packing.specs.Packing.{table_after, in_place, record_checks}
 use Rattle.packing.specs.Clean.{head_clean, tail_clean, fields_clean, kind_clean, clean}
 use Rattle.packing.specs.Runs.{CleanRun}
-use Rattle.identity.proofs.Tests.{cases, below_or_not, both, and-false}
+use Rattle.identity.proofs.Tests.{cases, below_or_not, both}
 
 -- a record is clean by its parts: the bytes past its fields, bytes 1 to 3 and the governed fields, and what its table asks beside
 parts_turned : (head tail absent kind : Bool) → (tail && (head && absent)) && kind ≡ (head && (tail && absent)) && kind
