@@ -7,7 +7,7 @@ use answers::Refusal;
 use packing::rules::check_packing;
 use packing::starts::table_starts;
 use packing::{PackAnswer, PackKind};
-use schema::lent::{PACK_LIMIT, Pack};
+use schema::lent::PACK_LIMIT;
 use std::alloc::{AllocError, Global};
 use std::io;
 use std::io::Write;
@@ -286,22 +286,12 @@ fn lengths(out: &mut String, alloc: Global) -> Result<(), AllocError> {
     Ok(())
 }
 
-// Where the tables of the enclave begin whose rows start at record `rows`, counted over the whole pack. Its own pack is an enclave's
-// record and the records from `rows` on.
-fn show_starts(out: &mut String, alloc: Global, text: &str, rows: u32) -> Result<(), AllocError>
-    requires { 0 < rows }
-{
+// Where the tables of the enclave begin whose rows start at record `rows`.
+fn show_starts(out: &mut String, alloc: Global, text: &str, rows: u32) -> Result<(), AllocError> {
     let pack = build(alloc, text)?;
-    let mut own = build(alloc, "0001")?;
-    if let Some(rest) = pack.get(rows as usize * 64..) {
-        own.extend_from_slice(rest)?;
-    }
     write!(out, "{text} from {rows}:")?;
-    let len = own.len();
-    if 0 < len && len <= PACK_LIMIT && len % 64 == 0 {
-        for start in &table_starts(Pack { bytes: &own }) {
-            write!(out, " {}", u64::from(rows - 1) + u64::from(*start))?;
-        }
+    for start in &table_starts(&pack, rows) {
+        write!(out, " {start}")?;
     }
     out.push_str("\n")
 }

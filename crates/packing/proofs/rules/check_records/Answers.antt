@@ -1,5 +1,5 @@
 -- The run after a record is passed over.
-use Rattle.std.proofs.Common.{ap, sym, ◌∙◌, arith}
+use Rattle.std.proofs.Common.{ap, sym, ◌∙◌}
 use Rattle.packing.proofs.Runs.{run_passed}
 use Rattle.packing.proofs.rules.check_records.Goals as goal
 
