@@ -33,7 +33,7 @@ fn check_enclave_at(pack: Pack, batch: &[u8], house: &[u8], n: usize, end: usize
     ensures { result ≡ image_result (image_at pack.entry.bytes.now batch.now house.now n) }
 {
     let own = enclave_pack_to(pack, n, end);
-    let starts = table_starts(own);
+    let starts = table_starts(own.bytes, 1);
     check_image(enclave(own, &starts, batch, house))
 }
 
