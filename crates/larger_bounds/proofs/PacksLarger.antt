@@ -36,8 +36,8 @@ module _ (p q batch house : List ℕ) (d : DifferInStorage p q) (single : (n : �
 
   checks-same : enclave_checks (pack_image q batch house) ≡ enclave_checks (with_bounds (in_tables m) (state_bound q 0) (action_bound q 0))
   checks-same =
-      ap (λ x. enclave_checks (image q batch house x)) (starts-same p q d 1)
-      ∙ sym (in-tables-same (image q batch house (table_starts p 1)))
+      ap (λ x. enclave_checks (image q batch house x 0)) (starts-same p q d 1)
+      ∙ sym (in-tables-same (image q batch house (table_starts p 1) 0))
       ∙ ap enclave_checks (image-same p q d batch house single)
 
   -- the checks of the one with the larger bounds are looser
@@ -48,7 +48,7 @@ module _ (p q batch house : List ℕ) (d : DifferInStorage p q) (single : (n : �
 
   pub pack-links : links (pack_image q batch house) ≡ links m
   pack-links =
-      ap (λ x. links (image q batch house x)) (starts-same p q d 1)
+      ap (λ x. links (image q batch house x 0)) (starts-same p q d 1)
       ∙ ap links (image-same p q d batch house single)
 
   pub pack-stays :
