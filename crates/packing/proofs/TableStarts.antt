@@ -13,7 +13,8 @@ use Rattle.identity.proofs.Tests.{cases, below_or_not}
 use Rattle.schema.specs.Rows.{byte_of}
 use Rattle.schema.specs.Tables.{IsRising, EndsInside}
 use Rattle.schema.specs.Records.{records_of}
-use Rattle.packing.proofs.Records.{records_inside, records_few, some_record}
+use Rattle.schema.proofs.Counts.{records_inside, records_few}
+use Rattle.packing.proofs.Records.{some_record}
 use Rattle.packing.specs.Runs.{FixedAt, starts_at}
 use Rattle.packing.specs.Starts.{reaches, first_reaching, table_start, starts_below, table_starts}
 
