@@ -40,6 +40,11 @@ not-true : {b : Bool} → not b ≡ false → b ≡ true
 not-true {b = true} e = refl
 not-true {b = false} e = absurd (true≢false e)
 
+-- what is left of a run of n lists of checks at item i
+pub record Left (f : ℕ → List Check) (i n : ℕ) : Type 0 where
+  pub within : i ≤ n
+  pub same : Remaining f i n
+
 -- a loop over a run of checks: one step, its refusal and its end
 step : (f : ℕ → List Check) (i n : ℕ) → Remaining f i n → i < n → first (f i) ≡ Passed → Remaining f (i + 1) n
 step f i n l h e = l ∙ rw (run_next f i n h) (first_past (f i) _ e)
@@ -59,8 +64,8 @@ pub quick-none : (f : ℕ → List Check) {i k n : ℕ} → Remaining f i k → 
 quick-none f l e h = record { passes = λ _. sym (loop-none f l e h).is }
 
 -- an exact test of a run, item by item
-pub test-step : (f : ℕ → List Check) {i n : ℕ} {b : Bool} → Remaining f i n → i < n → b ≡ is_passed (first (f i)) → not b ≡ false → Remaining f (i + 1) n
-test-step f {i} {n} l h d e = step f i n l h (by-passed (first (f i)) (rw (not-true e) at d))
+pub test-step : (f : ℕ → List Check) {i n : ℕ} {b : Bool} → Left f i n → i < n → b ≡ is_passed (first (f i)) → not b ≡ false → Left f (i + 1) n
+test-step f {i} {n} l h d e = record { within = omega arith; same = step f i n l.same h (by-passed (first (f i)) (rw (not-true e) at d)) }
 
 pub test-stop : (f : ℕ → List Check) {i k n : ℕ} {b : Bool} → Remaining f i k → k ≡ n → i < k → b ≡ is_passed (first (f i)) → not b ≡ true → false ≡ is_passed (first (run f 0 n))
 test-stop f {i} {k} l e h d t = rw (← e, l, run_next f i k h) (fails (f i) _ d t)
@@ -70,14 +75,14 @@ test-none f l e h = rw (← (loop-none f l e h).is) refl
 
 -- a loop that keeps a value from one item to the next: before item i it is `before i`
 pub record Keeping {A : Type 0} (f : ℕ → List Check) (before : ℕ → A) (n i : ℕ) (kept : A) : Type 0 where
-  pub left : Remaining f i n
+  pub left : Left f i n
   pub is : kept ≡ before i
 
 pub keeping-start : {A : Type 0} {before : ℕ → A} {kept : A} (f : ℕ → List Check) (n : ℕ) → kept ≡ before 0 → Keeping f before n 0 kept
-keeping-start f n e = record { left = let k : n - 0 ≡ n = omega arith in rw k refl; is = e }
+keeping-start f n e = record { left = record { within = omega arith; same = let k : n - 0 ≡ n = omega arith in rw k refl }; is = e }
 
 pub keeping-step : {A : Type 0} (f : ℕ → List Check) {before : ℕ → A} {n i : ℕ} {kept next : A} {o : Outcome} → Keeping f before n i kept → i < n → Decides (f i) o → o ≡ Passed → next ≡ before (i + 1) → Keeping f before n (i + 1) next
-keeping-step f {n = n} {i = i} l h d e k = record { left = step f i n l.left h (sym d.is ∙ e); is = k }
+keeping-step f {n = n} {i = i} l h d e k = record { left = record { within = omega arith; same = step f i n l.left.same h (sym d.is ∙ e) }; is = k }
 
 pub keeping-quick : {A : Type 0} (f : ℕ → List Check) {before : ℕ → A} {n i : ℕ} {kept next : A} {b : Bool} → Keeping f before n i kept → i < n → PassesIf (f i) b → not b ≡ false → next ≡ before (i + 1) → Keeping f before n (i + 1) next
-keeping-quick f {n = n} {i = i} l h q e k = record { left = step f i n l.left h (q.passes (not-true e)); is = k }
+keeping-quick f {n = n} {i = i} l h q e k = record { left = record { within = omega arith; same = step f i n l.left.same h (q.passes (not-true e)) }; is = k }

@@ -27,15 +27,16 @@ pub passed-row : (v m : ℕ) {r : Refusal} {o : Outcome} → Decides (need (ltb 
 passed-row v m {r} d e = ltb-true v m (holds (ltb v m) r (sym d.is ∙ e))
 
 -- so does one that was looked up, among m records if the tables end there
-module _ {K : Type 0} (s : List ℕ) (t i f g v : ℕ) (key k : K) where
-  is-row : (b : Bool) (r : Refusal) → cond b (found.Row key) (found.Refused r) ≡ found.Row k → b ≡ true
-  is-row true r e = refl
+module _ {K : Type 0} (s : List ℕ) (t i f g v n m : ℕ) (key k : K) where
+  is-row : (b : Bool) (r : Refusal) → cond b (found.Row key (start_of s g + v)) (found.Refused r) ≡ found.Row k n → (b ≡ true) × (start_of s g + v ≡ n)
+  is-row true r e = (refl, cc)
   is-row false r e = let z : ◌≡◌ {A = Bool} true false = cc in absurd (true≢false z)
 
-  pub found-inside : {m : ℕ} → IsRising s → start_of s tables ≤ m → g < tables → looked_up (rows_of s) t i f g key v ≡ found.Row k → start_of s g + v < m
+  pub found-inside : IsRising s → start_of s tables ≤ m → g < tables → looked_up s t i f g key v ≡ found.Row k n → n < m
   found-inside up inside known e =
-      let h = row-below s up g v known (ltb-true v (rows_of s g) (is-row (ltb v (rows_of s g)) _ e)) in
-      omega (arith, h)
+      let row = is-row (ltb v (rows_of s g)) _ e in
+      let h = row-below s up g v known (ltb-true v (rows_of s g) row.0) in
+      omega (arith, h, row.1)
 
 -- a range that fits among the k rows of its table g
 two : (a b : Bool) (r s : Refusal) → a && b ≡ true → first (need a r ∷ need b s ∷ []) ≡ Passed

@@ -1,5 +1,5 @@
 -- Table lengths, references, ranges and spans: the checks that rows' checks are made of (view.rs, `check_*`). Assumes nothing.
-use Rattle.std.specs.Prelude.{ℕ, ◌-◌, ◌^◌, Bool, false, cond, List, [], ◌∷◌, ltb, leb, eqb}
+use Rattle.std.specs.Prelude.{ℕ, ◌+◌, ◌-◌, ◌^◌, Bool, false, cond, List, [], ◌∷◌, ltb, leb, eqb}
 use Rattle.range.specs.declared.CheckedEnd.{CheckedEnd}
 use Rattle.range.specs.declared.CheckedEnd.TheVariants.{End, NoEnd}
 use Rattle.range.specs.declared.SliceRange.{SliceRange}
@@ -9,6 +9,7 @@ use Rattle.answers.specs.declared.Refusal.TheVariants.{TableTooLarge, ReferenceO
 use Rattle.answers.specs.declared.Outcome.{Outcome}
 use Rattle.answers.specs.declared.Outcome.TheVariants.{Passed, Refused}
 use Rattle.answers.specs.Checks.{Check, need}
+use Rattle.schema.specs.Tables.{start_of, rows_of}
 use Rattle.checks.specs.declared.Found.{Found}
 use Rattle.checks.specs.declared.Found.TheVariants as found
 
@@ -20,12 +21,12 @@ length_check rows t = need (leb (rows t) (2 ^ 32)) (TableTooLarge t)
 abbrev pub ref_to : (ℕ → ℕ) → ℕ → ℕ → ℕ → ℕ → ℕ → Check
 ref_to rows t i f g v = need (ltb v (rows g)) (ReferenceOutOfBounds t i f g v)
 
--- what a lookup of that reference answers: the key v, or the refusal
-abbrev pub looked_up : {K : Type 0} → (ℕ → ℕ) → ℕ → ℕ → ℕ → ℕ → K → ℕ → Found K
-looked_up rows t i f g key v = cond (ltb v (rows g)) (found.Row key) (found.Refused (ReferenceOutOfBounds t i f g v))
+-- what a lookup of that reference answers, where the tables begin at s: the key v with the record number of its row, or the refusal
+abbrev pub looked_up : {K : Type 0} → List ℕ → ℕ → ℕ → ℕ → ℕ → K → ℕ → Found K
+looked_up s t i f g key v = cond (ltb v (rows_of s g)) (found.Row key (start_of s g + v)) (found.Refused (ReferenceOutOfBounds t i f g v))
 
 abbrev pub found_outcome : {K : Type 0} → Found K → Outcome
-found_outcome (found.Row k) = Passed
+found_outcome (found.Row k n) = Passed
 found_outcome (found.Refused r) = Refused r
 
 abbrev pub end_within : CheckedEnd → ℕ → Bool

@@ -10,10 +10,10 @@ ghost use Rattle.checks.specs.Refs.{found_outcome};
 
 use answers::{Outcome, Refusal};
 
-// A lookup's answer: the key, whose table has the row, or the refusal.
+// A lookup's answer: the key, whose table has the row, with the row's record number, or the refusal.
 #[derive(Clone, Copy)]
 pub enum Found<K> {
-    Row(K),
+    Row(K, usize),
     Refused(Refusal),
 }
 
@@ -23,7 +23,7 @@ impl<K: Copy> Found<K> {
         ensures { result ≡ found_outcome self }
     {
         match self {
-            Found::Row(_) => Outcome::Passed,
+            Found::Row(..) => Outcome::Passed,
             Found::Refused(r) => Outcome::Refused(r),
         }
     }

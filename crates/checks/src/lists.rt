@@ -49,7 +49,7 @@ pub fn validate_level_ref(e: Enclave, table: u8, index: u32, entry: LevelReactio
     ensures { let m = image_of e.entry in result ≡ first (level_ref_checks m.rows m.reactions table index entry) }
 {
     let found = check_reaction_ref(e.starts, table, index, field::REACTION, entry.reaction);
-    let Found::Row(reaction) = found else {
+    let Found::Row(reaction, _) = found else {
         return found.refused();
     };
     if ReactionImage::row(e, reaction).dependency_level == entry.level {

@@ -69,10 +69,10 @@ fn check_ref<K: Copy>(
 ) -> Found<K>
     requires rising { IsRising starts.now }
     requires known { target < tables }
-    ensures { result ≡ looked_up (rows_of starts.now) table index field target key referenced }
+    ensures { result ≡ looked_up starts.now table index field target key referenced }
 {
     if referenced < rows_of(starts, target) {
-        return Found::Row(key);
+        return Found::Row(key, row_number(starts, target, referenced));
     }
     Found::Refused(Refusal::ReferenceOutOfBounds {
         table,
@@ -91,7 +91,7 @@ pub fn check_reactor_ref(
     key: ReactorIndex,
 ) -> Found<ReactorIndex>
     requires { IsRising starts.now }
-    ensures { result ≡ looked_up (rows_of starts.now) table index field 2 key key.0 }
+    ensures { result ≡ looked_up starts.now table index field 2 key key.0 }
 {
     check_ref(starts, table, index, field, ReactorImage::TABLE, key, key.0)
 }
@@ -104,7 +104,7 @@ pub fn check_action_ref(
     key: ActionIndex,
 ) -> Found<ActionIndex>
     requires { IsRising starts.now }
-    ensures { result ≡ looked_up (rows_of starts.now) table index field 3 key key.0 }
+    ensures { result ≡ looked_up starts.now table index field 3 key key.0 }
 {
     check_ref(starts, table, index, field, ActionImage::TABLE, key, key.0)
 }
@@ -117,7 +117,7 @@ pub fn check_port_ref(
     key: PortIndex,
 ) -> Found<PortIndex>
     requires { IsRising starts.now }
-    ensures { result ≡ looked_up (rows_of starts.now) table index field 4 key key.0 }
+    ensures { result ≡ looked_up starts.now table index field 4 key key.0 }
 {
     check_ref(starts, table, index, field, PortImage::TABLE, key, key.0)
 }
@@ -130,7 +130,7 @@ pub fn check_reaction_ref(
     key: ReactionIndex,
 ) -> Found<ReactionIndex>
     requires { IsRising starts.now }
-    ensures { result ≡ looked_up (rows_of starts.now) table index field 5 key key.0 }
+    ensures { result ≡ looked_up starts.now table index field 5 key key.0 }
 {
     check_ref(
         starts,
@@ -151,7 +151,7 @@ pub fn check_mode_ref(
     key: ModeIndex,
 ) -> Found<ModeIndex>
     requires { IsRising starts.now }
-    ensures { result ≡ looked_up (rows_of starts.now) table index field 6 key key.0 }
+    ensures { result ≡ looked_up starts.now table index field 6 key key.0 }
 {
     check_ref(starts, table, index, field, ModeImage::TABLE, key, key.0)
 }
@@ -164,7 +164,7 @@ pub fn check_scope_ref(
     key: ScopeIndex,
 ) -> Found<ScopeIndex>
     requires { IsRising starts.now }
-    ensures { result ≡ looked_up (rows_of starts.now) table index field 7 key key.0 }
+    ensures { result ≡ looked_up starts.now table index field 7 key key.0 }
 {
     check_ref(starts, table, index, field, ScopeImage::TABLE, key, key.0)
 }
@@ -177,7 +177,7 @@ pub fn check_binding_ref(
     key: BindingSlotIndex,
 ) -> Found<BindingSlotIndex>
     requires { IsRising starts.now }
-    ensures { result ≡ looked_up (rows_of starts.now) table index field 24 key key.0 }
+    ensures { result ≡ looked_up starts.now table index field 24 key key.0 }
 {
     check_ref(
         starts,

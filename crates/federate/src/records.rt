@@ -6,11 +6,10 @@ ghost use Rattle.federate.specs.Records.{enclaves_of, enclave_from, enclave_end,
 use schema::lent::{Pack, records_of};
 use schema::rows::EnclaveImage;
 
-#[tactic(auto, using(schema::proofs::Counts::counted_few))]
 pub fn count_enclaves(pack: Pack) -> u32
     ensures { result ≡ enclaves_of pack.entry.bytes.now }
 {
-    pack.count_of(EnclaveImage::TABLE) as u32
+    pack.count_of(EnclaveImage::TABLE)
 }
 
 // The first enclave's record from n on; where there is none, the number of records, or n past it.

@@ -4,17 +4,19 @@ ghost use Rattle.line_check.specs.Line.{part_read};
 
 use std::io::Read;
 use std::rt::Files;
-use std::{fs, io};
+use std::{fs, io, str};
 
 // The most bytes that a file of a line image may have. There is room for one more, by which a longer file is told.
 pub const LIMIT: usize = 65_536;
 
 pub const ROOM: usize = 65_537;
 
-// How many bytes of the file of that name stand in the room: all, or as many as it takes. None where it cannot be read, as a directory.
-pub fn read_file<R: Files>(rt: &R, name: &str, room: &mut [u8]) -> Option<usize>
+// How many bytes of the file of that name stand in the room: all, or as many as it takes. None where it cannot be read, as a directory
+// or a file whose name is not text.
+pub fn read_file<R: Files>(rt: &R, name: &[u8], room: &mut [u8]) -> Option<usize>
     ensures { IfSome result (λ n. n ≤ length room.new) }
 {
+    let name = str::from_utf8(name).ok()?;
     match fs::open(rt, name) {
         Ok(mut file) => fill(&mut file, room).ok(),
         Err(_) => None,

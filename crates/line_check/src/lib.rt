@@ -12,9 +12,9 @@ use std::rt::Files;
 // Reads the files of these names, and writes the line of their answer to standard output.
 pub fn check_files<R: Files + Print>(
     rt: &R,
-    pack_name: &str,
-    batch_name: &str,
-    house_name: &str,
+    pack_name: &[u8],
+    batch_name: &[u8],
+    house_name: &[u8],
 ) -> io::Result<()> {
     let mut pack = [0u8; ROOM];
     let mut batch = [0u8; ROOM];
@@ -32,5 +32,5 @@ pub fn check_files<R: Files + Print>(
 
 // The line image in the current directory.
 pub fn run<R: Files + Print>(rt: &R) -> io::Result<()> {
-    check_files(rt, "line.pack", "batch.txt", "house.txt")
+    check_files(rt, b"line.pack", b"batch.txt", b"house.txt")
 }

@@ -6,7 +6,7 @@ use std::io;
 
 fn show(rt: &HostRuntime, name: &str, pack: &str, batch: &str, house: &str) -> io::Result<()> {
     print!(rt; "{name}: ")?;
-    check_files(rt, pack, batch, house)
+    check_files(rt, pack.as_bytes(), batch.as_bytes(), house.as_bytes())
 }
 
 fn answers(rt: &HostRuntime) -> io::Result<()> {

@@ -98,7 +98,7 @@ pub fn check_mode_entries<const T: u8>(e: Enclave) -> Outcome
     for i in 0..e.rows(T) {
         let entry = ModeEntry::<T>::row(e, i as usize);
         let found = check_mode_ref(e.starts, T, i, field::MODE, entry.0);
-        let Found::Row(_) = found else {
+        let Found::Row(..) = found else {
             return found.refused();
         };
     }
@@ -121,7 +121,7 @@ pub fn check_scope_entries<const T: u8>(e: Enclave) -> Outcome
     for i in 0..e.rows(T) {
         let entry = ScopeEntry::<T>::row(e, i as usize);
         let found = check_scope_ref(e.starts, T, i, field::SCOPE, entry.0);
-        let Found::Row(_) = found else {
+        let Found::Row(..) = found else {
             return found.refused();
         };
     }
@@ -178,7 +178,7 @@ fn check_enabled_mode(e: Enclave, i: u32, reactor: ReactorIndex, start: u32, k: 
     let key = ReactionMode::row(e, start as usize + k as usize).0;
     let index = entry_index(start, k);
     let found = check_mode_ref(e.starts, ReactionMode::TABLE, index, field::MODE, key);
-    let Found::Row(mode) = found else {
+    let Found::Row(mode, _) = found else {
         return found.refused();
     };
     if ModeImage::row(e, mode).reactor.0 == reactor.0 {
@@ -242,7 +242,7 @@ fn check_shutdown_action(e: Enclave, i: u32) -> Outcome
     let table = ShutdownAction::TABLE;
     let key = ShutdownAction::row(e, i as usize).0;
     let found = check_action_ref(e.starts, table, i, field::ACTION, key);
-    let Found::Row(action) = found else {
+    let Found::Row(action, _) = found else {
         return found.refused();
     };
     if i == 0 {

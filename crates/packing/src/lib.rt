@@ -7,7 +7,10 @@ pub mod shape;
 pub mod starts;
 pub mod walker;
 
-use answers::Refusal;
+ghost use Rattle.std.specs.Prelude.{◌≡◌};
+ghost use Rattle.packing.specs.Packing.{pack_outcome};
+
+use answers::{Outcome, Refusal};
 use schema::lent::Pack;
 
 #[derive(Clone, Copy)]
@@ -21,4 +24,16 @@ pub enum PackKind {
 pub enum PackAnswer<'a> {
     Pack(Pack<'a>),
     Refused(Refusal),
+}
+
+impl<'a> PackAnswer<'a> {
+    // The same without the pack.
+    pub fn outcome(self) -> Outcome
+        ensures { result ≡ pack_outcome self.entry }
+    {
+        match self {
+            PackAnswer::Pack(_) => Outcome::Passed,
+            PackAnswer::Refused(r) => Outcome::Refused(r),
+        }
+    }
 }

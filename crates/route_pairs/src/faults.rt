@@ -30,7 +30,7 @@ impl<'a> Routes<'a> {
     fn count(self) -> usize
         ensures { result ≡ length (routes_of self.entry.pack.bytes.now) }
     {
-        self.pack.count_of(RouteImage::TABLE)
+        self.pack.count_of(RouteImage::TABLE) as usize
     }
 
     // The routes, in the order of the records.

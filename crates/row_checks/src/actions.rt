@@ -56,7 +56,7 @@ fn check_action_row(e: Enclave, i: u32, row: ActionImage, previous_end: u64) -> 
     ensures { result ≡ first (action_row (image_of e.entry) i (action_part row) previous_end) }
 {
     let scope = check_scope_ref(e.starts, ActionImage::TABLE, i, field::SCOPE, row.scope);
-    let Found::Row(_) = scope else {
+    let Found::Row(..) = scope else {
         return scope.refused();
     };
     let bound = EnclaveImage::at(e.pack, e.own).storage_bounds.action_slots;

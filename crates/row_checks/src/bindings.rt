@@ -66,7 +66,7 @@ pub fn check_binding(
     ensures { let m = image_of e.entry in result ≡ first (binding_checks m.rows m.bindings table index field kind key.0) }
 {
     let found = check_binding_ref(e.starts, table, index, field, key);
-    let Found::Row(binding) = found else {
+    let Found::Row(binding, _) = found else {
         return found.refused();
     };
     if same_kind(RequiredBindingImage::row(e, binding).kind, kind) {

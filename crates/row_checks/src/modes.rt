@@ -53,11 +53,11 @@ fn check_mode_row(e: Enclave, i: u32, row: ModeImage) -> Outcome
     ensures { result ≡ first (mode_row (image_of e.entry) i row) }
 {
     let found = check_reactor_ref(e.starts, ModeImage::TABLE, i, field::REACTOR, row.reactor);
-    let Found::Row(reactor) = found else {
+    let Found::Row(reactor, _) = found else {
         return found.refused();
     };
     let found = check_scope_ref(e.starts, ModeImage::TABLE, i, field::SCOPE, row.scope);
-    let Found::Row(scope) = found else {
+    let Found::Row(scope, _) = found else {
         return found.refused();
     };
     check_mode_owner(

@@ -31,7 +31,7 @@ fn check_port_row(e: Enclave, i: u32, row: PortImage, previous_end: u64) -> Outc
         return binding;
     };
     let scope = check_scope_ref(e.starts, PortImage::TABLE, i, field::SCOPE, row.scope);
-    let Found::Row(_) = scope else {
+    let Found::Row(..) = scope else {
         return scope.refused();
     };
     check_enclave_range(

@@ -70,11 +70,11 @@ fn check_reaction_owner(e: Enclave, i: u32, row: ReactionImage) -> Outcome
         field::REACTOR,
         row.reactor,
     );
-    let Found::Row(reactor) = found else {
+    let Found::Row(reactor, _) = found else {
         return found.refused();
     };
     let found = check_scope_ref(e.starts, ReactionImage::TABLE, i, field::SCOPE, row.scope);
-    let Found::Row(scope) = found else {
+    let Found::Row(scope, _) = found else {
         return found.refused();
     };
     let binding = check_binding(
@@ -109,7 +109,7 @@ fn check_effect(e: Enclave, i: u32, reactor: ReactorIndex, effect: MaybeModeEffe
         field::MODE_EFFECT_TARGET,
         effect.target,
     );
-    let Found::Row(target) = found else {
+    let Found::Row(target, _) = found else {
         return found.refused();
     };
     if ModeImage::row(e, target).reactor.0 == reactor.0 {

@@ -44,7 +44,7 @@ fn check_root_scope(e: Enclave, i: u32, key: ScopeIndex) -> Outcome
     ensures { let m = image_of e.entry in result ≡ first (root_scope_checks m.rows m.scopes i key.0) }
 {
     let found = check_scope_ref(e.starts, ReactorImage::TABLE, i, field::ROOT_SCOPE, key);
-    let Found::Row(root) = found else {
+    let Found::Row(root, _) = found else {
         return found.refused();
     };
     let scope = ScopeImage::row(e, root);
@@ -66,7 +66,7 @@ fn check_initial_mode(e: Enclave, i: u32, modes: ModeSpan, initial: MaybeMode) -
         return Outcome::Passed;
     };
     let found = check_mode_ref(e.starts, ReactorImage::TABLE, i, field::INITIAL_MODE, key);
-    let Found::Row(mode) = found else {
+    let Found::Row(mode, _) = found else {
         return found.refused();
     };
     if modes.0.contains(mode.0) {

@@ -1,8 +1,8 @@
 -- Counts of the numbers below n that pass a test, and of a pack's records. Assumes nothing.
-use Rattle.std.proofs.Common.{ℕ, zero, suc, ◌+◌, ◌/◌, ◌≤◌, Bool, true, false, cond, ltb, ◌≡◌, refl, List, length, arith, add-one}
+use Rattle.std.proofs.Common.{ℕ, ◌+◌, ◌/◌, ◌≤◌, Bool, cond, ltb, ◌≡◌, refl, List, length, arith, add-one}
 use borrow.Author.Tests.{ltb-true, ltb-false}
 use Rattle.identity.proofs.Tests.{cases}
-use Rattle.schema.specs.Records.{records_of, is_of, count_below}
+use Rattle.schema.specs.Records.{records_of, count_below}
 
 module _ (f : ℕ → Bool) where
   pub count_none : count_below f 0 ≡ 0
@@ -12,15 +12,6 @@ module _ (f : ℕ → Bool) where
   pub count_next : (n : ℕ) → count_below f (n + 1) ≡ count_below f n + cond (f n) 1 0
   unfolding count_below
   count_next n = rw add-one refl
-
-  pub count_within : (n : ℕ) → count_below f n ≤ n
-  unfolding count_below
-  count_within zero = omega arith
-  count_within (suc n) = let h = count_within n in let b = one (f n) in omega arith
-    where
-      one : (b : Bool) → cond b 1 0 ≤ 1
-      one true = omega arith
-      one false = omega arith
 
 pub ruleset count_laws = (count_none, count_next)
 
@@ -36,6 +27,3 @@ records_inside p = (cut (length p / 64)).0
 
 pub records_few : (p : List ℕ) → records_of p ≤ 65536
 records_few p = (cut (length p / 64)).1
-
-pub counted_few : (p : List ℕ) (t : ℕ) → count_below (is_of p t) (records_of p) ≤ 65536
-counted_few p t = let h = count_within (is_of p t) (records_of p) in let f = records_few p in omega arith

@@ -3,7 +3,7 @@ ghost use Rattle.std.specs.Prelude.{◌≡◌, ◌+◌, ◌*◌, ◌/◌, ◌%�
 ghost use Rattle.schema.specs.Records.{records_of, is_of, count_below};
 ghost use Rattle.schema.specs.Number.{number};
 ghost use Rattle.schema.specs.Tables.{start_of, rows_of, IsRising, EndsInside, tables};
-ghost use Rattle.schema.specs.Rows.{byte_of, bit_of, range, span, place};
+ghost use Rattle.schema.specs.Rows.{Whole, byte_of, bit_of, range, span, place};
 
 use crate::parts::byte_at;
 use crate::read::{byte_of, long_of, place_of, range_of, span_of, word_of};
@@ -17,7 +17,7 @@ pub const PACK_LIMIT: usize = 4_194_304;
 #[derive(Clone, Copy)]
 pub struct Pack<'a> {
     pub bytes: &'a [u8],
-    ghost whole: { length bytes.now % 64 ≡ 0 },
+    ghost whole: { Whole bytes.now },
 }
 
 // How many records of a pack are looked at: all, and no more than fit the limit.
@@ -75,13 +75,13 @@ impl<'a> Pack<'a> {
 
     // How many records of a table the pack has.
     #[tactic(auto, using(crate::proofs::Counts::count_laws))]
-    pub fn count_of(self, table: u8) -> usize
+    pub fn count_of(self, table: u8) -> u32
         ensures count { let p = self.entry.bytes.now in result ≡ count_below (is_of p table) (records_of p) }
         ensures within { result ≤ length self.entry.bytes.now / 64 }
     {
         let mut found = 0;
-        for n in 0..records_of(self.bytes) as usize {
-            if self.is_of(table, n) {
+        for n in 0..records_of(self.bytes) {
+            if self.is_of(table, n as usize) {
                 found += 1;
             }
         }

@@ -10,3 +10,5 @@ pub mod parts;
 pub mod read;
 pub mod read_lists;
 pub mod rows;
+
+pub use lent::TableStarts;

@@ -23,7 +23,7 @@ pub fn check_parent(starts: &TableStarts, i: u32, parent: MaybeScope) -> Outcome
         return Outcome::Passed;
     };
     let found = check_scope_ref(starts, ScopeImage::TABLE, i, field::PARENT, key);
-    let Found::Row(_) = found else {
+    let Found::Row(..) = found else {
         return found.refused();
     };
     Outcome::Passed
@@ -37,7 +37,7 @@ pub fn check_scope_mode(e: Enclave, i: u32, reactor: ReactorIndex, mode: MaybeMo
         return Outcome::Passed;
     };
     let found = check_mode_ref(e.starts, ScopeImage::TABLE, i, field::MODE, key);
-    let Found::Row(owner) = found else {
+    let Found::Row(owner, _) = found else {
         return found.refused();
     };
     let owner = ModeImage::row(e, owner);
@@ -57,7 +57,7 @@ pub fn check_scope_owner(e: Enclave, i: u32, row: ScopeImage) -> Outcome
     ensures { result ≡ first (scope_owner_checks (image_of e.entry) i row) }
 {
     let found = check_reactor_ref(e.starts, ScopeImage::TABLE, i, field::REACTOR, row.reactor);
-    let Found::Row(_) = found else {
+    let Found::Row(..) = found else {
         return found.refused();
     };
     let parent = check_parent(e.starts, i, row.parent);
