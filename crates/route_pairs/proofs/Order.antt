@@ -67,7 +67,7 @@ module _ (key : ℕ → List ℕ) (x y : ℕ) (h : is_lt (row_order key y x) ≡
       grind (arith, nat_tests)
 
 module _ (key : ℕ → List ℕ) (rows : List ℕ) (up : IsSorted (row_order key) rows) where
-  in_order : (a b : ℕ) → a ≤ b → b < length rows → is_lt (row_order key (get_or rows b 0) (get_or rows a 0)) ≡ false
+  pub in_order : (a b : ℕ) → a ≤ b → b < length rows → is_lt (row_order key (get_or rows b 0) (get_or rows a 0)) ≡ false
   in_order a b h g = sorted_far (λ x y. is_lt (row_order key x y)) (row_order_weak key) rows up a b 0 h g
 
   -- of rows with one text the first is the smallest

@@ -1,6 +1,6 @@
 -- Rows of routes in the order of their boundaries. Only the inner functions of the sort and of the scan say what they do by these. Assumes nothing.
-use Rattle.std.specs.Prelude.{ℕ, zero, suc, ◌+◌, ◌<◌, ◌≤◌, Bool, true, not, ◌&&◌, ◌||◌, cond, ◌≡◌, List, [], ◌∷◌, ◌++◌, eqb, leb, length, slice_index}
-use Rattle.std.specs.Ordering.{nat_cmp}
+use Rattle.std.specs.Prelude.{ℕ, zero, suc, ◌+◌, ◌<◌, ◌≤◌, Bool, true, false, not, ◌&&◌, ◌||◌, cond, ◌≡◌, List, [], ◌∷◌, ◌++◌, eqb, leb, length, slice_index}
+use Rattle.std.specs.Ordering.{nat_cmp, is_lt}
 use Rattle.std.specs.declared.cmp.Ordering.{Ordering}
 use Rattle.std.specs.declared.cmp.Ordering.TheVariants as order
 use Rattle.identity.specs.declared.IdentityPlace.{IdentityPlace}
@@ -42,6 +42,10 @@ then Greater o = order.Greater
 -- rows by their texts, then by their numbers
 unfoldable pub row_order : (ℕ → List ℕ) → ℕ → ℕ → Ordering
 row_order key a b = then (compared (key a) (key b)) (nat_cmp a b)
+
+-- no row comes before one that is less
+abbrev pub InOrder : (ℕ → ℕ → Ordering) → List ℕ → Type 0
+InOrder order rows = (a b : ℕ) → a ≤ b → b < length rows → is_lt (order (slice_index rows b) (slice_index rows a)) ≡ false
 
 -- two routes of one boundary that are its two halves: one in and one out, of one domain and one delay
 abbrev pub are_halves : RouteImage → RouteImage → Bool

@@ -1,7 +1,7 @@
 // The first route at fault: rows sorted by their boundaries, and one pass over neighbours.
 ghost use Rattle.std.specs.Prelude.{◌≡◌, ◌<◌, ◌≤◌, length, slice_index, IsPermutation, IsSorted};
 ghost use Rattle.identity.specs.Order.{compared};
-ghost use Rattle.route_pairs.specs.RouteOrder.{text_of, boundary_at, routes_of, row_order, are_halves, parted, fits, Scanned, FirstRouteFault};
+ghost use Rattle.route_pairs.specs.RouteOrder.{text_of, boundary_at, routes_of, row_order, InOrder, are_halves, parted, fits, Scanned, FirstRouteFault};
 
 use crate::{Half, Routes, is_half};
 use identity::ByteOrder;
@@ -72,6 +72,7 @@ impl<'a> Routes<'a> {
     pub fn sort(self, rows: &mut [u32])
         ensures permutation { IsPermutation rows.old rows.new }
         ensures sorted { IsSorted (row_order (boundary_at (text_of self.entry) self.entry.pack.bytes.now)) rows.new }
+        ensures ordered { InOrder (row_order (boundary_at (text_of self.entry) self.entry.pack.bytes.now)) rows.new }
     {
         rows.sort_unstable_by(|a, b| self.order(*a, *b));
     }
