@@ -85,15 +85,23 @@ fn head_clean(shape: Shape, bits: u8, kind: u8, last: u8) -> bool
 // Bytes 1 to 3 of record n and the fields that its presence bits govern, by the shape of `table`.
 #[tactic(auto, using(crate::proofs::Tables::table_laws))]
 #[inline(always)]
-pub fn fields_clean(p: &[u8], n: usize, table: u8) -> bool
-    requires { n < length p.now / 64 }
+fn fields_by(p: &[u8], n: usize, table: u8, shape: Shape) -> bool
+    requires inside { n < length p.now / 64 }
+    requires shaped { shape ≡ shape_of table }
     ensures { result ≡ fields_clean (layout_of table) p.now n }
 {
-    let shape = shape_of(table);
     let bits = byte_of(p, n, 1);
     head_clean(shape, bits, byte_of(p, n, 2), byte_of(p, n, 3))
         && (has_bit(bits, 0) || field_zero(p, n, shape.bit_0))
         && (has_bit(bits, 1) || field_zero(p, n, shape.bit_1))
+}
+
+// The same, where the shape is not at hand.
+pub fn fields_clean(p: &[u8], n: usize, table: u8) -> bool
+    requires { n < length p.now / 64 }
+    ensures { result ≡ fields_clean (layout_of table) p.now n }
+{
+    fields_by(p, n, table, shape_of(table))
 }
 
 // The bit and the D of an action's timing.
@@ -127,7 +135,7 @@ pub fn clean(p: &[u8], n: usize, table: u8, shape: Shape) -> bool
     requires shaped { shape ≡ shape_of table }
     ensures { result ≡ clean p.now n }
 {
-    rest_zero(p, n, shape.used) & fields_clean(p, n, table) & kind_clean(p, n, table)
+    rest_zero(p, n, shape.used) & fields_by(p, n, table, shape) & kind_clean(p, n, table)
 }
 
 // The first record from n on that is not a clean one of `table`, whose shape it is, or the limit.

@@ -160,13 +160,12 @@ fn check_scope_ranges(starts: &TableStarts, i: u32, row: ScopeImage, ends: Scope
     check_reaction_ranges(starts, i, row, ends)
 }
 
-// The ranges of row i against the running ends, with the ends that come after it.
-pub fn moved_ends(starts: &TableStarts, i: u32, row: ScopeImage, ends: ScopeEnds) -> EndsAnswer
-    requires { IsRising starts.now }
-    ensures answer { result.answer ≡ first (scope_range_checks (rows_of starts.now) i row ends) }
-    ensures moved { result.ends ≡ ends_after result.answer row ends }
+// An answer for a row, with the ends that come after it.
+#[inline(always)]
+fn ends_answer(answer: Outcome, row: ScopeImage, ends: ScopeEnds) -> EndsAnswer
+    ensures answer { result.answer ≡ answer }
+    ensures moved { result.ends ≡ ends_after answer row ends }
 {
-    let answer = check_scope_ranges(starts, i, row, ends);
     let Outcome::Passed = answer else {
         return EndsAnswer { ends, answer };
     };
@@ -176,20 +175,33 @@ pub fn moved_ends(starts: &TableStarts, i: u32, row: ScopeImage, ends: ScopeEnds
     }
 }
 
-// Row i by value: its references, then its ranges.
+// The ranges of row i against the running ends, by value.
+pub fn moved_ends(starts: &TableStarts, i: u32, row: ScopeImage, ends: ScopeEnds) -> EndsAnswer
+    requires { IsRising starts.now }
+    ensures answer { result.answer ≡ first (scope_range_checks (rows_of starts.now) i row ends) }
+    ensures moved { result.ends ≡ ends_after result.answer row ends }
+{
+    ends_answer(check_scope_ranges(starts, i, row, ends), row, ends)
+}
+
+// Row i against the running ends: its references, then its ranges.
 #[tactic(auto, using(answers::proofs::Laws::list_laws), unfolding(crate::specs::Scopes::scope_row_checks))]
+fn check_row(e: Enclave, i: u32, row: ScopeImage, ends: ScopeEnds) -> Outcome
+    ensures { result ≡ first (scope_row_checks (image_of e.entry) i row ends) }
+{
+    let owner = check_scope_owner(e, i, row);
+    let Outcome::Passed = owner else {
+        return owner;
+    };
+    check_scope_ranges(e.starts, i, row, ends)
+}
+
+// Row i by value.
 pub fn moved_row(e: Enclave, i: u32, row: ScopeImage, ends: ScopeEnds) -> EndsAnswer
     ensures answer { result.answer ≡ first (scope_row_checks (image_of e.entry) i row ends) }
     ensures moved { result.ends ≡ ends_after result.answer row ends }
 {
-    let owner = check_scope_owner(e, i, row);
-    let Outcome::Passed = owner else {
-        return EndsAnswer {
-            ends,
-            answer: owner,
-        };
-    };
-    moved_ends(e.starts, i, row, ends)
+    ends_answer(check_row(e, i, row, ends), row, ends)
 }
 
 // Row i as it stands in the pack, by value.
