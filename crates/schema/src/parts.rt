@@ -3,17 +3,19 @@ ghost use Rattle.std.specs.Prelude.{◌≡◌, ◌+◌, ◌*◌, ◌/◌, ◌<�
 ghost use Rattle.schema.specs.Number.{number, Words};
 ghost use Rattle.schema.specs.Rows.{byte_of, enclave_at, reactor_at, action_at, port_at, reaction_at, mode_at, scope_at, lifecycle_at, route_at, binding_at};
 
+use crate::fields::maybe_scope;
 use crate::index::{
     ActionIndex, BindingKind, BindingSlotIndex, MaybeMode, MaybeModeEffect, MaybeScope, PortIndex,
     ReactorIndex, ScopeIndex,
 };
-use crate::lent::Pack;
+use crate::lent::{Pack, has_bit};
 use crate::lists::LevelReactionImage;
 use crate::read::{
     action_of, binding_of, byte_of, enclave_at, mode_of, port_of, reaction_of, reactor_of,
-    route_at, route_of, scope_at, scope_of, word_of, words_of,
+    route_at, route_of, scope_of, word_of, words_of,
 };
 use crate::read_lists::{lifecycle_at, lifecycle_of};
+use crate::rows::ScopeImage;
 use identity::IdentityPlace;
 use range::{ModeSpan, SliceRange};
 
@@ -171,18 +173,23 @@ pub fn mode_scope_of(p: &[u8], n: usize) -> ScopeIndex
     mode_of(p, n).scope
 }
 
-// Of a scope.
+// Of a scope. The walk of the parents reads nothing else of it.
+#[tactic(auto, using(crate::proofs::Past::rows_past))]
 pub fn scope_parent_at(pack: Pack, n: usize) -> MaybeScope
     ensures { result ≡ (scope_at pack.entry.bytes.now n).parent }
 {
-    scope_at(pack, n).parent
+    if pack.records() <= n {
+        return ScopeImage::empty().parent;
+    }
+    scope_parent_of(pack.bytes, n)
 }
 
+#[tactic(auto, unfolding(crate::specs::Rows::scope_at))]
 pub fn scope_parent_of(p: &[u8], n: usize) -> MaybeScope
     requires { n < length p.now / 64 }
     ensures { result ≡ (scope_at p.now n).parent }
 {
-    scope_of(p, n).parent
+    maybe_scope(has_bit(byte_of(p, n, 1), 0), word_of(p, n, 4))
 }
 
 pub fn scope_reactor_of(p: &[u8], n: usize) -> ReactorIndex

@@ -10,6 +10,7 @@ use crate::fields::{direction_of, domain_of, maybe_bank, maybe_binding, timing_o
 use crate::index::{BindingSlotIndex, PortIndex, ReactorIndex, ScopeIndex};
 use crate::lent::{Pack, has_bit};
 use crate::number::{long_inside, word_inside, words_inside};
+use crate::parts::scope_parent_of;
 use crate::rows::{
     ActionImage, EnclaveImage, FederateImage, ModeImage, PortImage, ReactionImage, ReactorImage,
     RequiredBindingImage, RouteImage, ScopeImage, StorageBounds,
@@ -199,7 +200,7 @@ pub fn scope_of(p: &[u8], n: usize) -> ScopeImage
 {
     let bits = byte_of(p, n, 1);
     ScopeImage {
-        parent: maybe_scope(has_bit(bits, 0), word_of(p, n, 4)),
+        parent: scope_parent_of(p, n),
         reactor: ReactorIndex(word_of(p, n, 8)),
         mode: maybe_mode(has_bit(bits, 1), word_of(p, n, 12)),
         descendants: range_of(p, n, 16),

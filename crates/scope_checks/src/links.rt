@@ -11,6 +11,7 @@ ghost use Rattle.answers.specs.Checks.{first, run};
 use answers::Refusal;
 use schema::index::{MaybeScope, ScopeIndex};
 use schema::lent::Enclave;
+use schema::parts::scope_parent_at;
 use schema::rows::ScopeImage;
 
 // Room for the depths of few scopes, of many, and of as many as a pack has records: 256 bytes, 16 KiB and 256 KiB of stack.
@@ -39,11 +40,10 @@ fn depth_of(depths: &[u32], scope: ScopeIndex) -> u32
 }
 
 // The parent of a scope.
-#[inline(always)]
 pub fn parent_of(e: Enclave, scope: ScopeIndex) -> MaybeScope
     ensures { result ≡ parents (image_of e.entry) scope.0 }
 {
-    ScopeImage::row(e, scope).parent
+    scope_parent_at(e.pack, e.record(ScopeImage::TABLE, scope.0 as usize))
 }
 
 // The links of a scope: parents followed until none, or until as many as there are scopes. It ends at the first whose depth is known.
