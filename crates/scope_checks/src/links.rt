@@ -40,6 +40,7 @@ fn depth_of(depths: &[u32], scope: ScopeIndex) -> u32
 }
 
 // The parent of a scope.
+#[inline(always)]
 pub fn parent_of(e: Enclave, scope: ScopeIndex) -> MaybeScope
     ensures { result ≡ parents (image_of e.entry) scope.0 }
 {
