@@ -127,7 +127,7 @@ pub fn check_lifecycle(e: Enclave, table: u8, start: u32, k: u32) -> Outcome
 
 // The entries of a range of a table.
 #[tactic(auto, using(answers::proofs::Loops::run_laws), unfolding(crate::specs::Lists::levels_checks))]
-pub fn validate_levels(e: Enclave, table: u8, range: SliceRange) -> Outcome
+fn check_levels(e: Enclave, table: u8, range: SliceRange) -> Outcome
     requires { table < tables }
     ensures { let m = image_of e.entry in result ≡ first (levels_checks m.rows m.reactions m.levels table range.start range.len) }
 {
@@ -141,7 +141,7 @@ pub fn validate_levels(e: Enclave, table: u8, range: SliceRange) -> Outcome
 }
 
 #[tactic(auto, using(answers::proofs::Loops::run_laws), unfolding(crate::specs::Lists::lifecycles_checks))]
-pub fn validate_lifecycle(e: Enclave, table: u8, range: SliceRange) -> Outcome
+fn check_lifecycles(e: Enclave, table: u8, range: SliceRange) -> Outcome
     requires { table < tables }
     ensures { let m = image_of e.entry in result ≡ first (lifecycles_checks m.rows m.reactions m.lifecycles table range.start range.len) }
 {
@@ -152,6 +152,31 @@ pub fn validate_lifecycle(e: Enclave, table: u8, range: SliceRange) -> Outcome
         };
     }
     Outcome::Passed
+}
+
+// The same. An empty range, the usual one, is answered at once.
+#[tactic(auto, using(answers::proofs::Loops::run_laws), unfolding(crate::specs::Lists::levels_checks, answers::specs::Checks::first, answers::specs::Checks::run))]
+#[inline(always)]
+pub fn validate_levels(e: Enclave, table: u8, range: SliceRange) -> Outcome
+    requires { table < tables }
+    ensures { let m = image_of e.entry in result ≡ first (levels_checks m.rows m.reactions m.levels table range.start range.len) }
+{
+    if range.len == 0 {
+        return Outcome::Passed;
+    }
+    check_levels(e, table, range)
+}
+
+#[tactic(auto, using(answers::proofs::Loops::run_laws), unfolding(crate::specs::Lists::lifecycles_checks, answers::specs::Checks::first, answers::specs::Checks::run))]
+#[inline(always)]
+pub fn validate_lifecycle(e: Enclave, table: u8, range: SliceRange) -> Outcome
+    requires { table < tables }
+    ensures { let m = image_of e.entry in result ≡ first (lifecycles_checks m.rows m.reactions m.lifecycles table range.start range.len) }
+{
+    if range.len == 0 {
+        return Outcome::Passed;
+    }
+    check_lifecycles(e, table, range)
 }
 
 // Whether the entries of a range pass.

@@ -1,7 +1,7 @@
 use Rattle.answers.proofs.Loops.{Remaining}
 use Rattle.checks.specs.Image.{image_of}
 use Rattle.checks.specs.Lists.{level_checks}
-use Rattle.checks.proofs.lists.validate_levels.Given as goal
+use Rattle.checks.proofs.lists.check_levels.Given as goal
 
 abbrev pub invariant-loop-k : goal.invariant-loop-k
 invariant-loop-k l =
