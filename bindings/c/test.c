@@ -59,7 +59,7 @@ static void print_answer(const uint64_t *numbers, uint32_t count)
     print_numbers(numbers, numbers[0] == 0 ? 1 : 0, count);
 }
 
-/* Answers one case whose first 13 bytes are `head`; 0 where the run ends with it. */
+/* Answers one case whose first 13 bytes are `head`; 0 where the input ends inside it. */
 static int answer_case(const uint8_t *head, int null_if_empty)
 {
     int whole = 1;
@@ -75,10 +75,8 @@ static int answer_case(const uint8_t *head, int null_if_empty)
         print_answer(numbers, check_enclave_image(pack, p, batch, b, house, h, numbers));
     else if (head[0] == 1)
         print_answer(numbers, check_federate_image(pack, p, batch, b, house, h, numbers));
-    else {
+    else
         puts("unknown kind");
-        whole = 0;
-    }
     free(pack);
     free(batch);
     free(house);

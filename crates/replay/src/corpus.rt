@@ -1,25 +1,12 @@
 // One answer line for each question of a corpus.
-use crate::answer::write_answer;
-use crate::input::{Stop, Texts, read_kind};
+use crate::answer::answer_of;
+use crate::input::{Next, Texts, read_case};
+use crate::output::put_line;
 use std::alloc::Global;
 use std::io;
 use std::io::{BufRead, Write};
 
-// Writes the answer of the next question, and says whether there was one.
-fn answer_next<R: BufRead, W: Write>(
-    texts: &mut Texts,
-    input: &mut R,
-    output: &mut W,
-) -> Result<bool, Stop> {
-    let Some(kind) = read_kind(input)? else {
-        return Ok(false);
-    };
-    texts.read(input)?;
-    write_answer(kind, texts, output)?;
-    Ok(true)
-}
-
-// Answers each question, to the end of the corpus or to what cannot be answered.
+// Answers each question, to the end of the corpus or to one that is cut off. Nothing says that the input ends, so the turns are counted.
 pub fn answer_all<R: BufRead, W: Write>(
     alloc: Global,
     input: &mut R,
@@ -27,12 +14,13 @@ pub fn answer_all<R: BufRead, W: Write>(
 ) -> io::Result<()> {
     let mut texts = Texts::new(alloc);
     for _ in 0..u64::MAX {
-        match answer_next(&mut texts, input, output) {
-            Ok(true) => {}
-            Ok(false) => return Ok(()),
-            Err(Stop::CutOff) => return output.write_all(b"cut off\n"),
-            Err(Stop::UnknownKind) => return output.write_all(b"unknown kind\n"),
-            Err(Stop::Failed(error)) => return Err(error),
+        match read_case(input, &mut texts)? {
+            Next::Case(kind) => {
+                let answer = answer_of(kind, &texts.pack, &texts.batch, &texts.house);
+                put_line(output, answer)?;
+            }
+            Next::CutOff => return output.write_all(b"cut off\n"),
+            Next::End => return Ok(()),
         }
     }
     Ok(())

@@ -4,6 +4,7 @@
 mod answer;
 mod corpus;
 mod input;
+mod output;
 
 use std::io;
 use std::io::{BufReader, BufWriter, Write};

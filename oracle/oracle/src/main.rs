@@ -56,19 +56,13 @@ fn main() -> ExitCode {
 /// Whether all went as it should, or why it could not be tried.
 type Done = io::Result<bool>;
 
-/// Calls `each` with every whole case and its number, to one of an unknown kind; true where the corpus was cut off.
+/// Calls `each` with every whole case and its number; true where the corpus was cut off.
 fn for_each(corpus: &str, mut each: impl FnMut(u64, Case) -> io::Result<()>) -> io::Result<bool> {
     let mut cases = Corpus(BufReader::with_capacity(1 << 20, File::open(corpus)?));
     let mut number = 0;
     loop {
         match cases.read()? {
-            Next::Case(case) => {
-                let known = case.kind().is_some();
-                each(number, case)?;
-                if !known {
-                    return Ok(false);
-                }
-            }
+            Next::Case(case) => each(number, case)?,
             Next::CutOff => return Ok(true),
             Next::End => return Ok(false),
         }
