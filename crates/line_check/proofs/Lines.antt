@@ -1,4 +1,4 @@
--- A number of 64 bits has twenty digits at most; a refusal's numbers fit eight places, and the first is no 0, so its line begins with `refused`. Assumes nothing.
+-- A number of 64 bits has twenty digits at most; a refusal's first number is no 0, so its line begins with `refused`. Assumes nothing.
 use Rattle.std.proofs.Common.{◌≡◌, ℕ, zero, suc, ◌^◌, ◌<◌, ◌≤◌, decimal, List, [], ◌∷◌, ◌++◌, length, get_or, take, drop, refl, sym, ◌∙◌, append-nil, append_assoc, codes, arith}
 use Rattle.std.proofs.lemmas.Fmt.{length-decimal-le}
 use Rattle.std.proofs.lemmas.List.{drop_all}
@@ -6,14 +6,11 @@ use Rattle.answers.specs.declared.Refusal.{Refusal}
 use Rattle.answers.specs.declared.NumberList.{NumberList}
 use Rattle.answers.specs.Numbers.{numbers}
 use Rattle.answers.specs.Listed.{listed}
-use Rattle.answers.proofs.RefusalNumbers.{number-positive, numbers-few, numbers-first}
+use Rattle.answers.proofs.RefusalNumbers.{number-positive, numbers-first}
 use Rattle.line_check.specs.Line.{numbers_text, line, answer_line}
 
 pub few_digits : (n : ℕ) → n < 2 ^ 64 → length (decimal n) ≤ 20
 few_digits n h = length-decimal-le 20 n (omega arith) (omega arith) h
-
-pub few_numbers : (r : Refusal) → length (numbers r) ≤ 8
-few_numbers r = omega (arith, numbers-few r)
 
 -- all numbers written, the line's end is left
 pub line_ends : (word text ns : List ℕ) (k : ℕ) → length ns ≤ k → text ++ numbers_text (drop k ns) ≡ word ++ numbers_text ns → text ++ codes "\n" ≡ line word ns

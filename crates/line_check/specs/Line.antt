@@ -1,6 +1,8 @@
 -- The line that the program prints, in bytes. Assumes nothing.
-use Rattle.std.specs.Prelude.{ℕ, zero, suc, Bool, ◌||◌, nat_lt, Option, Some, None, List, [], ◌∷◌, ◌++◌, length, take, codes, decimal, if◌then◌else◌}
+use Rattle.std.specs.Prelude.{ℕ, zero, suc, List, [], ◌∷◌, ◌++◌, take, codes, decimal}
 use Rattle.federate.specs.Answer.{federate_answer}
+use Rattle.line_check.specs.declared.files.Files.{Files}
+use Rattle.line_check.specs.declared.files.Files.TheVariants as files
 
 -- a blank and a number, without zeros in front
 abbrev pub number_text : ℕ → List ℕ
@@ -21,17 +23,8 @@ answer_line [] = line (codes "refused") []
 answer_line (zero ∷ ns) = line (codes "accepted") ns
 answer_line (suc k ∷ ns) = line (codes "refused") (suc k ∷ ns)
 
--- the bytes that were read: so many from the room's start
-abbrev pub part_read : List ℕ → Option ℕ → Option (List ℕ)
-part_read room (Some n) = Some (take n room)
-part_read room None = None
-
--- a file's bytes are over the limit
-abbrev pub too_long : List ℕ → Bool
-too_long bytes = nat_lt 65536 (length bytes)
-
--- the line for the bytes of three files; None stands for a file that cannot be read
-abbrev pub file_line : Option (List ℕ) → Option (List ℕ) → Option (List ℕ) → List ℕ
-file_line (Some p) (Some b) (Some h) =
-    if too_long p || too_long b || too_long h then codes "too long\n" else answer_line (federate_answer p b h)
-file_line _ _ _ = codes "no file\n"
+-- the line for what was read into three rooms
+unfoldable pub file_line : Files → List ℕ → List ℕ → List ℕ → List ℕ
+file_line files.NoFile pack batch house = codes "no file\n"
+file_line files.TooLong pack batch house = codes "too long\n"
+file_line (files.Read p b h) pack batch house = answer_line (federate_answer (take p pack) (take b batch) (take h house))

@@ -4,13 +4,12 @@
 mod files;
 mod line;
 
-use files::{ROOM, part, read_file};
-use std::io;
+use files::ROOM;
 use std::io::Write;
-use std::rt::Files;
+use std::{io, rt};
 
 // Reads the files of these names, and writes the line of their answer to standard output.
-pub fn check_files<R: Files + Print>(
+pub fn check_files<R: rt::Files + Print>(
     rt: &R,
     pack_name: &[u8],
     batch_name: &[u8],
@@ -19,18 +18,16 @@ pub fn check_files<R: Files + Print>(
     let mut pack = [0u8; ROOM];
     let mut batch = [0u8; ROOM];
     let mut house = [0u8; ROOM];
-    let pack_read = read_file(rt, pack_name, &mut pack);
-    let batch_read = read_file(rt, batch_name, &mut batch);
-    let house_read = read_file(rt, house_name, &mut house);
-    let line = line::line_for(
-        part(&pack, pack_read),
-        part(&batch, batch_read),
-        part(&house, house_read),
-    );
-    io::writer(rt).write_all(line.as_bytes())
+    let pack_read = files::read_file(rt, pack_name, &mut pack);
+    let batch_read = files::read_file(rt, batch_name, &mut batch);
+    let house_read = files::read_file(rt, house_name, &mut house);
+    let files = files::together(pack_read, batch_read, house_read);
+    let mut out = [0u8; 192];
+    let n = line::put_line(&mut out, files, &pack, &batch, &house);
+    io::writer(rt).write_all(&out[..n])
 }
 
 // The line image in the current directory.
-pub fn run<R: Files + Print>(rt: &R) -> io::Result<()> {
+pub fn run<R: rt::Files + Print>(rt: &R) -> io::Result<()> {
     check_files(rt, b"line.pack", b"batch.txt", b"house.txt")
 }
