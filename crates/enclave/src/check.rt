@@ -8,7 +8,7 @@ ghost use Rattle.enclave.specs.Answer.{answer_numbers, outcome_answer, image_res
 use crate::EnclaveAnswer;
 use crate::passes::{check_lists, check_rows};
 use answers::Outcome;
-use packing::rules::check_packing;
+use packing::rules::checked_pack;
 use packing::starts::{enclave, table_starts};
 use packing::{PackAnswer, PackKind};
 use schema::lent::Enclave;
@@ -60,7 +60,7 @@ pub fn check_image(e: Enclave) -> EnclaveAnswer
 pub fn check_enclave<'a>(pack: &'a [u8], batch: &'a [u8], house: &'a [u8]) -> EnclaveAnswer
     ensures { answer_numbers result ≡ enclave_answer pack.now batch.now house.now }
 {
-    let packed = check_packing(PackKind::Enclave, pack, batch, house);
+    let packed = checked_pack(PackKind::Enclave, pack, batch, house);
     let pack = match packed {
         PackAnswer::Pack(pack) => pack,
         PackAnswer::Refused(r) => return EnclaveAnswer::Refused(r),

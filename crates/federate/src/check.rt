@@ -13,7 +13,7 @@ use crate::metadata::{check_enclave_count, validate_federate_metadata};
 use crate::records::count_enclaves;
 use answers::Outcome;
 use enclave::EnclaveAnswer;
-use packing::rules::check_packing;
+use packing::rules::checked_pack;
 use packing::{PackAnswer, PackKind};
 use route_pairs::validate_federate_route_pairs;
 use schema::lent::Pack;
@@ -69,7 +69,7 @@ fn check_packed(pack: Pack, batch: &[u8], house: &[u8]) -> FederateAnswer
 pub fn check_federate<'a>(pack: &'a [u8], batch: &'a [u8], house: &'a [u8]) -> FederateAnswer
     ensures { federate_numbers result ≡ federate_answer pack.now batch.now house.now }
 {
-    match check_packing(PackKind::Federate, pack, batch, house) {
+    match checked_pack(PackKind::Federate, pack, batch, house) {
         PackAnswer::Pack(pack) => check_packed(pack, batch, house),
         PackAnswer::Refused(r) => FederateAnswer::Refused(r),
     }

@@ -153,9 +153,9 @@ fn check_records(kind: PackKind, pack: Pack, batch: &[u8], house: &[u8]) -> Outc
     }
 }
 
-// The packing rules of a pack over its two texts.
+// The pack of these bytes, where it passes the packing rules over its two texts.
 #[tactic(auto, unfolding(answers::specs::Checks::first, crate::specs::Packing::packing_checks))]
-pub fn check_packing<'a>(
+pub fn checked_pack<'a>(
     kind: PackKind,
     bytes: &'a [u8],
     batch: &[u8],
@@ -182,6 +182,13 @@ pub fn check_packing<'a>(
     }
 }
 
+// The packing rules of a pack over its two texts.
+pub fn check_packing(kind: PackKind, pack: &[u8], batch: &[u8], house: &[u8]) -> Outcome
+    ensures { result ≡ first (packing_checks kind pack.now batch.now house.now) }
+{
+    checked_pack(kind, pack, batch, house).outcome()
+}
+
 // The rules of an enclave's pack. Where it passes, `starts` holds where its tables begin; else it is left as it was.
 pub fn check_enclave_packing(
     pack: &[u8],
@@ -192,7 +199,7 @@ pub fn check_enclave_packing(
     ensures value { result ≡ first (packing_checks PackKind.Enclave pack.now batch.now house.now) }
     ensures starts_after { starts.new ≡ starts_after result pack.now starts.old }
 {
-    match check_packing(PackKind::Enclave, pack, batch, house) {
+    match checked_pack(PackKind::Enclave, pack, batch, house) {
         PackAnswer::Pack(_) => {
             *starts = table_starts(pack, 1);
             Outcome::Passed

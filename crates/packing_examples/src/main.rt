@@ -3,10 +3,10 @@
 
 ghost use Rattle.std.specs.Prelude.{◌<◌, ◌≤◌, length};
 
-use answers::Refusal;
+use answers::{Outcome, Refusal};
+use packing::PackKind;
 use packing::rules::check_packing;
 use packing::starts::table_starts;
-use packing::{PackAnswer, PackKind};
 use schema::lent::PACK_LIMIT;
 use std::alloc::{AllocError, Global};
 use std::io;
@@ -44,8 +44,8 @@ fn write_answer(
     house: &[u8],
 ) -> Result<(), AllocError> {
     match check_packing(kind, pack, batch, house) {
-        PackAnswer::Pack(_) => out.push_str(" packed\n"),
-        PackAnswer::Refused(refusal) => refused(out, refusal),
+        Outcome::Passed => out.push_str(" packed\n"),
+        Outcome::Refused(refusal) => refused(out, refusal),
     }
 }
 
