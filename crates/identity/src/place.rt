@@ -48,5 +48,11 @@ pub fn identity_text<'a>(batch: &'a [u8], house: &'a [u8], place: IdentityPlace)
 pub fn names_ascii(batch: &[u8], house: &[u8], place: IdentityPlace) -> bool
     ensures { result ≡ names_ascii batch.now house.now place }
 {
-    place_inside(batch, house, place) && short_ascii(identity_text(batch, house, place))
+    let text = named_text(batch, house, place);
+    let begin = place.start as usize;
+    let end = begin + place.len as usize;
+    if text.len() < end {
+        return false;
+    }
+    short_ascii(&text[begin..end])
 }
