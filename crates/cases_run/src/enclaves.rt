@@ -1,248 +1,274 @@
 // The cases of a station.
-use crate::parts::{one_half, s, two_halves, two_scopes, uncovered_trigger};
-use crate::rows;
-use crate::show::{pack_of, show_enclave, show_enclave_bytes};
+use crate::show::{put, show_enclave};
+use crate::{parts, rows};
 use cases::records;
-use range::SliceRange;
-use schema::index::{
-    ActionTiming, BankInfoImage, BindingKind, BindingSlotIndex, MaybeBank, MaybeBinding, MaybeMode,
-    MaybePeriod, ModeIndex, ReactorIndex, RouteDirection, ScopeIndex,
-};
+use schema::index::RouteDirection;
 use schema::lists::ReactionTrigger;
-use schema::rows::{ActionImage, EnclaveImage, ModeImage, ReactionImage, ReactorImage, ScopeImage};
-use std::alloc::{AllocError, Global};
+use schema::rows::{ActionImage, EnclaveImage, ReactorImage, ScopeImage};
+use std::io;
+
+// S with another enclave, reactor or scope, of which the first `len` bytes are lent.
+fn with_rows(
+    rt: &HostRuntime,
+    name: &str,
+    enclave: EnclaveImage,
+    reactor: ReactorImage,
+    scope: ScopeImage,
+    len: usize,
+    batch: &[u8],
+) -> io::Result<()> {
+    let mut pack = [0u8; 2048];
+    parts::put_s(&mut pack, 0, enclave, reactor, scope);
+    show_enclave(rt, name, &pack, len, batch)
+}
 
 fn with_enclave(
-    out: &mut String,
-    alloc: Global,
+    rt: &HostRuntime,
     name: &str,
     enclave: EnclaveImage,
     batch: &[u8],
-) -> Result<(), AllocError> {
-    let records = s(enclave, ReactorImage::empty(), ScopeImage::empty());
-    show_enclave(out, alloc, name, &records, batch)
+) -> io::Result<()> {
+    with_rows(
+        rt,
+        name,
+        enclave,
+        ReactorImage::empty(),
+        ScopeImage::empty(),
+        256,
+        batch,
+    )
 }
 
-fn with_bank(
-    out: &mut String,
-    alloc: Global,
-    name: &str,
-    index: u32,
-    total: u32,
-) -> Result<(), AllocError> {
-    let mut reactor = ReactorImage::empty();
-    reactor.bank = MaybeBank::Bank(BankInfoImage { index, total });
-    let records = s(rows::enclave_s(), reactor, ScopeImage::empty());
-    show_enclave(out, alloc, name, &records, b"ab")
+fn with_reactor(rt: &HostRuntime, name: &str, reactor: ReactorImage) -> io::Result<()> {
+    with_rows(
+        rt,
+        name,
+        rows::enclave_s(),
+        reactor,
+        ScopeImage::empty(),
+        256,
+        b"ab",
+    )
 }
 
-fn with_scopes(
-    out: &mut String,
-    alloc: Global,
+fn without_reactor(rt: &HostRuntime) -> io::Result<()> {
+    let mut pack = [0u8; 2048];
+    put(&mut pack, 0, records::enclave(rows::enclave(0, 0, 1, 0)));
+    put(&mut pack, 1, records::scope(ScopeImage::empty()));
+    put(&mut pack, 2, records::binding(rows::binding_s()));
+    show_enclave(
+        rt,
+        "S without its reactor, identity empty",
+        &pack,
+        192,
+        b"ab",
+    )
+}
+
+fn two_scopes(
+    rt: &HostRuntime,
     name: &str,
     first: ScopeImage,
     second: ScopeImage,
-) -> Result<(), AllocError> {
-    let records = two_scopes(rows::enclave_s(), first, second);
-    show_enclave(out, alloc, name, &records, b"ab")
+) -> io::Result<()> {
+    let mut pack = [0u8; 2048];
+    parts::put_two_scopes(&mut pack, 0, rows::enclave_s(), first, second);
+    show_enclave(rt, name, &pack, 320, b"ab")
 }
 
 // Reactor 0 has the modes 0+1, and reactor 1 an empty span.
-fn with_spans(out: &mut String, alloc: Global, name: &str, start: u64) -> Result<(), AllocError> {
-    let mut mode = ModeImage::empty();
-    mode.scope = ScopeIndex(2);
-    let mut second_root = ScopeImage::empty();
-    second_root.reactor = ReactorIndex(1);
-    let mut mode_scope = ScopeImage::empty();
-    mode_scope.mode = MaybeMode::Mode(ModeIndex(0));
-    let records = [
-        records::enclave(rows::enclave_s()),
-        records::reactor(rows::reactor(0, 0, 1)),
-        records::reactor(rows::reactor(1, start, 0)),
-        records::mode(mode),
-        records::scope(ScopeImage::empty()),
-        records::scope(second_root),
-        records::scope(mode_scope),
-        records::binding(rows::binding_s()),
-    ];
-    show_enclave(out, alloc, name, &records, b"ab")
+fn two_spans(rt: &HostRuntime, name: &str, start: u64) -> io::Result<()> {
+    let mut pack = [0u8; 2048];
+    put(&mut pack, 0, records::enclave(rows::enclave_s()));
+    put(&mut pack, 1, records::reactor(rows::reactor(0, 0, 1)));
+    put(&mut pack, 2, records::reactor(rows::reactor(1, start, 0)));
+    put(&mut pack, 3, records::mode(rows::mode(0, 2)));
+    put(&mut pack, 4, records::scope(rows::scope(0)));
+    put(&mut pack, 5, records::scope(rows::scope(1)));
+    put(&mut pack, 6, records::scope(rows::mode_scope(0)));
+    put(&mut pack, 7, records::binding(rows::binding_s()));
+    show_enclave(rt, name, &pack, 512, b"ab")
 }
 
 fn with_action(
-    out: &mut String,
-    alloc: Global,
+    rt: &HostRuntime,
     name: &str,
     enclave: EnclaveImage,
     action: ActionImage,
-) -> Result<(), AllocError> {
-    let records = [
-        records::enclave(enclave),
-        records::reactor(ReactorImage::empty()),
-        records::action(action),
-        records::scope(ScopeImage::empty()),
-        records::binding(rows::binding_s()),
-    ];
-    show_enclave(out, alloc, name, &records, b"ab")
-}
-
-fn slots_and_parents(out: &mut String, alloc: Global) -> Result<(), AllocError> {
-    with_enclave(out, alloc, "S", rows::enclave_s(), b"ab")?;
-    with_enclave(
-        out,
-        alloc,
-        "S, state slots 0",
-        rows::enclave(0, 1, 0, 0),
-        b"ab",
-    )?;
-    let without_reactor = [
-        records::enclave(rows::enclave(0, 0, 1, 0)),
-        records::scope(ScopeImage::empty()),
-        records::binding(rows::binding_s()),
-    ];
-    let name = "S without its reactor, identity empty";
-    show_enclave(out, alloc, name, &without_reactor, b"ab")?;
-    let own_parent = s(
-        rows::enclave_s(),
-        ReactorImage::empty(),
-        rows::scope_under(0),
-    );
-    show_enclave(out, alloc, "S, scope 0 its own parent", &own_parent, b"ab")?;
-    let root = ScopeImage::empty();
-    with_scopes(
-        out,
-        alloc,
-        "S and scope 1 under scope 0",
-        root,
-        rows::scope_under(0),
-    )?;
-    let name = "each the other's parent";
-    with_scopes(out, alloc, name, rows::scope_under(1), rows::scope_under(0))
-}
-
-fn spans_and_banks(out: &mut String, alloc: Global) -> Result<(), AllocError> {
-    with_spans(out, alloc, "modes 0+1, then 0+0", 0)?;
-    with_spans(out, alloc, "modes 0+1, then 1+0", 1)?;
-    with_bank(out, alloc, "bank index 0 of 0", 0, 0)?;
-    with_bank(out, alloc, "bank index 3 of 3", 3, 3)?;
-    with_bank(out, alloc, "bank index 2 of 3", 2, 3)
-}
-
-// The identity stands behind S's own text.
-fn identities(out: &mut String, alloc: Global) -> Result<(), AllocError> {
-    let two = rows::enclave(2, 2, 1, 0);
-    let three = rows::enclave(2, 3, 1, 0);
-    with_enclave(out, alloc, "identity ` a`", two, b"ab a")?;
-    with_enclave(out, alloc, "identity U+00A0", two, b"ab\xC2\xA0")?;
-    with_enclave(out, alloc, "identity `a b`", three, b"aba b")?;
-    with_enclave(out, alloc, "identity U+200B", three, b"ab\xE2\x80\x8B")
-}
-
-fn actions(out: &mut String, alloc: Global) -> Result<(), AllocError> {
-    let one = rows::enclave(0, 1, 1, 1);
-    let none = rows::enclave_s();
-    let standard = ActionImage::empty();
-    let mut timer = ActionImage::empty();
-    timer.binding = MaybeBinding::Binding(BindingSlotIndex(0));
-    timer.timing = ActionTiming::Timer {
-        period_nanos: MaybePeriod::NoPeriod,
-    };
-    with_action(out, alloc, "a timer with a binding", one, timer)?;
-    with_action(out, alloc, "a standard action without", one, standard)?;
-    with_action(
-        out,
-        alloc,
-        "a timer with a binding, action slots 0",
-        none,
-        timer,
-    )?;
-    with_action(
-        out,
-        alloc,
-        "a standard action without, action slots 0",
-        none,
-        standard,
-    )
+) -> io::Result<()> {
+    let mut pack = [0u8; 2048];
+    put(&mut pack, 0, records::enclave(enclave));
+    put(&mut pack, 1, records::reactor(ReactorImage::empty()));
+    put(&mut pack, 2, records::action(action));
+    put(&mut pack, 3, records::scope(ScopeImage::empty()));
+    put(&mut pack, 4, records::binding(rows::binding_s()));
+    show_enclave(rt, name, &pack, 320, b"ab")
 }
 
 // An action and a port with the same trigger.
-fn shared_trigger(out: &mut String, alloc: Global) -> Result<(), AllocError> {
-    let mut action = ActionImage::empty();
-    action.binding = MaybeBinding::Binding(BindingSlotIndex(1));
-    action.triggers = SliceRange { start: 0, len: 1 };
-    let mut reaction = ReactionImage::empty();
-    reaction.binding = BindingSlotIndex(3);
-    let records = [
-        records::enclave(rows::enclave(0, 1, 1, 1)),
-        records::reactor(ReactorImage::empty()),
-        records::action(action),
-        records::port(rows::port(2, 1)),
-        records::reaction(reaction),
-        records::scope(ScopeImage::empty()),
-        records::trigger(ReactionTrigger::empty()),
-        records::binding(rows::binding_s()),
-        records::binding(rows::binding(2, BindingKind::Action)),
-        records::binding(rows::binding(3, BindingKind::Port)),
-        records::binding(rows::binding(4, BindingKind::Reaction)),
-    ];
-    let name = "an action and a port with triggers 0+1";
-    show_enclave(out, alloc, name, &records, b"abcde")
-}
-
-// One half of the boundary `d`.
-fn halves(out: &mut String, alloc: Global) -> Result<(), AllocError> {
-    let a = rows::enclave_s();
-    let inbound = rows::route(3, RouteDirection::Inbound);
-    let outbound = rows::route(3, RouteDirection::Outbound);
+fn shared_trigger(rt: &HostRuntime) -> io::Result<()> {
+    let mut pack = [0u8; 2048];
+    put(&mut pack, 0, records::enclave(rows::enclave_one_action()));
+    put(&mut pack, 1, records::reactor(ReactorImage::empty()));
+    put(&mut pack, 2, records::action(rows::triggering_action(1)));
+    put(&mut pack, 3, records::port(rows::port(2, 1)));
+    put(&mut pack, 4, records::reaction(rows::reaction(3)));
+    put(&mut pack, 5, records::scope(ScopeImage::empty()));
+    put(&mut pack, 6, records::trigger(ReactionTrigger::empty()));
+    put(&mut pack, 7, records::binding(rows::binding_s()));
+    put(&mut pack, 8, records::binding(rows::action_binding(2)));
+    put(&mut pack, 9, records::binding(rows::port_binding(3)));
+    put(&mut pack, 10, records::binding(rows::reaction_binding(4)));
     show_enclave(
-        out,
-        alloc,
-        "a lone route half, inbound",
-        &one_half(a, inbound),
-        b"abcd",
-    )?;
-    show_enclave(
-        out,
-        alloc,
-        "a lone route half, outbound",
-        &one_half(a, outbound),
-        b"abcd",
+        rt,
+        "an action and a port with triggers 0+1",
+        &pack,
+        704,
+        b"abcde",
     )
 }
 
-// The first bytes of S.
-fn cut(out: &mut String, alloc: Global, name: &str, len: usize) -> Result<(), AllocError> {
-    let (reactor, scope) = (ReactorImage::empty(), ScopeImage::empty());
-    let mut pack = pack_of(alloc, &s(rows::enclave_s(), reactor, scope))?;
-    pack.truncate(len);
-    show_enclave_bytes(out, name, &pack, b"ab")
+fn uncovered_trigger(rt: &HostRuntime) -> io::Result<()> {
+    let mut pack = [0u8; 2048];
+    parts::put_uncovered_trigger(&mut pack, 0);
+    show_enclave(rt, "an entry that no range covers", &pack, 320, b"ab")
 }
 
-fn lengths(out: &mut String, alloc: Global) -> Result<(), AllocError> {
-    cut(out, alloc, "63 bytes", 63)?;
-    cut(out, alloc, "65 bytes", 65)?;
-    let name = "identity of length 0 at the text's end";
-    with_enclave(out, alloc, name, rows::enclave(2, 0, 1, 0), b"ab")
+// One half of the boundary `d`.
+fn one_half(rt: &HostRuntime, name: &str, direction: RouteDirection) -> io::Result<()> {
+    let mut pack = [0u8; 2048];
+    parts::put_half(&mut pack, 0, rows::enclave_s(), rows::route(3, direction));
+    show_enclave(rt, name, &pack, 448, b"abcd")
 }
 
-fn misreadings(out: &mut String, alloc: Global) -> Result<(), AllocError> {
-    let name = "an entry that no range covers";
-    show_enclave(out, alloc, name, &uncovered_trigger(), b"ab")?;
-    let a = rows::enclave_s();
-    let inbound = rows::route(3, RouteDirection::Inbound);
-    let outbound = rows::route(3, RouteDirection::Outbound);
-    let name = "equal boundaries, inbound first";
-    show_enclave(out, alloc, name, &two_halves(a, inbound, outbound), b"abcd")?;
-    let name = "equal boundaries, outbound first";
-    show_enclave(out, alloc, name, &two_halves(a, outbound, inbound), b"abcd")
+// Two halves of the boundary `d`.
+fn two_halves(
+    rt: &HostRuntime,
+    name: &str,
+    first: RouteDirection,
+    second: RouteDirection,
+) -> io::Result<()> {
+    let mut pack = [0u8; 2048];
+    parts::put_halves(
+        &mut pack,
+        0,
+        rows::enclave_s(),
+        rows::route(3, first),
+        rows::route(3, second),
+    );
+    show_enclave(rt, name, &pack, 512, b"abcd")
 }
 
-pub fn show_all(out: &mut String, alloc: Global) -> Result<(), AllocError> {
-    slots_and_parents(out, alloc)?;
-    spans_and_banks(out, alloc)?;
-    identities(out, alloc)?;
-    actions(out, alloc)?;
-    shared_trigger(out, alloc)?;
-    halves(out, alloc)?;
-    lengths(out, alloc)?;
-    misreadings(out, alloc)
+fn slots_and_parents(rt: &HostRuntime) -> io::Result<()> {
+    with_enclave(rt, "S", rows::enclave_s(), b"ab")?;
+    with_enclave(rt, "S, state slots 0", rows::enclave(0, 1, 0, 0), b"ab")?;
+    without_reactor(rt)?;
+    with_rows(
+        rt,
+        "S, scope 0 its own parent",
+        rows::enclave_s(),
+        ReactorImage::empty(),
+        rows::scope_under(0),
+        256,
+        b"ab",
+    )?;
+    two_scopes(
+        rt,
+        "S and scope 1 under scope 0",
+        ScopeImage::empty(),
+        rows::scope_under(0),
+    )?;
+    two_scopes(
+        rt,
+        "each the other's parent",
+        rows::scope_under(1),
+        rows::scope_under(0),
+    )
+}
+
+fn spans_and_banks(rt: &HostRuntime) -> io::Result<()> {
+    two_spans(rt, "modes 0+1, then 0+0", 0)?;
+    two_spans(rt, "modes 0+1, then 1+0", 1)?;
+    with_reactor(rt, "bank index 0 of 0", rows::bank_reactor(0, 0))?;
+    with_reactor(rt, "bank index 3 of 3", rows::bank_reactor(3, 3))?;
+    with_reactor(rt, "bank index 2 of 3", rows::bank_reactor(2, 3))
+}
+
+// The identity stands behind S's own text.
+fn identities(rt: &HostRuntime) -> io::Result<()> {
+    with_enclave(rt, "identity ` a`", rows::enclave(2, 2, 1, 0), b"ab a")?;
+    with_enclave(
+        rt,
+        "identity U+00A0",
+        rows::enclave(2, 2, 1, 0),
+        b"ab\xC2\xA0",
+    )?;
+    with_enclave(rt, "identity `a b`", rows::enclave(2, 3, 1, 0), b"aba b")?;
+    with_enclave(
+        rt,
+        "identity U+200B",
+        rows::enclave(2, 3, 1, 0),
+        b"ab\xE2\x80\x8B",
+    )
+}
+
+fn actions(rt: &HostRuntime) -> io::Result<()> {
+    let one = rows::enclave_one_action();
+    let none = rows::enclave_s();
+    with_action(rt, "a timer with a binding", one, rows::bound_timer())?;
+    with_action(rt, "a standard action without", one, ActionImage::empty())?;
+    with_action(
+        rt,
+        "a timer with a binding, action slots 0",
+        none,
+        rows::bound_timer(),
+    )?;
+    with_action(
+        rt,
+        "a standard action without, action slots 0",
+        none,
+        ActionImage::empty(),
+    )?;
+    shared_trigger(rt)
+}
+
+fn lengths(rt: &HostRuntime) -> io::Result<()> {
+    let enclave = rows::enclave_s();
+    let reactor = ReactorImage::empty();
+    let scope = ScopeImage::empty();
+    with_rows(rt, "63 bytes", enclave, reactor, scope, 63, b"ab")?;
+    with_rows(rt, "65 bytes", enclave, reactor, scope, 65, b"ab")?;
+    with_enclave(
+        rt,
+        "identity of length 0 at the text's end",
+        rows::enclave(2, 0, 1, 0),
+        b"ab",
+    )
+}
+
+fn misreadings(rt: &HostRuntime) -> io::Result<()> {
+    uncovered_trigger(rt)?;
+    two_halves(
+        rt,
+        "equal boundaries, inbound first",
+        RouteDirection::Inbound,
+        RouteDirection::Outbound,
+    )?;
+    two_halves(
+        rt,
+        "equal boundaries, outbound first",
+        RouteDirection::Outbound,
+        RouteDirection::Inbound,
+    )
+}
+
+pub fn cases(rt: &HostRuntime) -> io::Result<()> {
+    slots_and_parents(rt)?;
+    spans_and_banks(rt)?;
+    identities(rt)?;
+    actions(rt)?;
+    one_half(rt, "a lone route half, inbound", RouteDirection::Inbound)?;
+    one_half(rt, "a lone route half, outbound", RouteDirection::Outbound)?;
+    lengths(rt)?;
+    misreadings(rt)
 }

@@ -8,11 +8,8 @@ mod rows;
 mod show;
 
 use std::io;
-use std::io::Write;
 
 fn main(rt: HostRuntime) -> io::Result<()> {
-    let mut out = String::new(rt.alloc());
-    enclaves::show_all(&mut out, rt.alloc())?;
-    federates::show_all(&mut out, rt.alloc())?;
-    io::writer(&rt).write_all(out.as_bytes())
+    enclaves::cases(&rt)?;
+    federates::cases(&rt)
 }

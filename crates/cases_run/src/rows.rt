@@ -1,12 +1,13 @@
-// The rows that several cases have: each starts from its empty row and sets what differs.
+// The rows of the cases: each starts from its empty row and sets what differs.
 use identity::IdentityPlace;
 use range::{EnclaveSpan, IndexSpan, ModeSpan, SliceRange};
 use schema::index::{
-    BindingKind, BindingSlotIndex, MaybeScope, RouteDirection, ScopeIndex, TimingDomain,
+    ActionTiming, BankInfoImage, BindingKind, BindingSlotIndex, MaybeBank, MaybeBinding, MaybeMode,
+    MaybePeriod, MaybeScope, ModeIndex, ReactorIndex, RouteDirection, ScopeIndex, TimingDomain,
 };
 use schema::rows::{
-    EnclaveImage, FederateImage, PortImage, ReactorImage, RequiredBindingImage, RouteImage,
-    ScopeImage,
+    ActionImage, EnclaveImage, FederateImage, ModeImage, PortImage, ReactionImage, ReactorImage,
+    RequiredBindingImage, RouteImage, ScopeImage,
 };
 
 // A place in the batch text.
@@ -41,10 +42,39 @@ pub fn enclave_s() -> EnclaveImage {
     enclave(0, 1, 1, 0)
 }
 
+// S's enclave with one action slot.
+pub fn enclave_one_action() -> EnclaveImage {
+    enclave(0, 1, 1, 1)
+}
+
 pub fn reactor(root_scope: u32, start: u64, len: u64) -> ReactorImage {
     let mut row = ReactorImage::empty();
     row.root_scope = ScopeIndex(root_scope);
     row.modes = ModeSpan(IndexSpan { start, len });
+    row
+}
+
+pub fn bank_reactor(index: u32, total: u32) -> ReactorImage {
+    let mut row = ReactorImage::empty();
+    row.bank = MaybeBank::Bank(BankInfoImage { index, total });
+    row
+}
+
+// A timer with binding 0.
+pub fn bound_timer() -> ActionImage {
+    let mut row = ActionImage::empty();
+    row.binding = MaybeBinding::Binding(BindingSlotIndex(0));
+    row.timing = ActionTiming::Timer {
+        period_nanos: MaybePeriod::NoPeriod,
+    };
+    row
+}
+
+// A standard action with a binding and one trigger.
+pub fn triggering_action(binding: u32) -> ActionImage {
+    let mut row = ActionImage::empty();
+    row.binding = MaybeBinding::Binding(BindingSlotIndex(binding));
+    row.triggers = SliceRange { start: 0, len: 1 };
     row
 }
 
@@ -58,9 +88,35 @@ pub fn port(binding: u32, triggers: u32) -> PortImage {
     row
 }
 
+pub fn reaction(binding: u32) -> ReactionImage {
+    let mut row = ReactionImage::empty();
+    row.binding = BindingSlotIndex(binding);
+    row
+}
+
+pub fn mode(reactor: u32, scope: u32) -> ModeImage {
+    let mut row = ModeImage::empty();
+    row.reactor = ReactorIndex(reactor);
+    row.scope = ScopeIndex(scope);
+    row
+}
+
+pub fn scope(reactor: u32) -> ScopeImage {
+    let mut row = ScopeImage::empty();
+    row.reactor = ReactorIndex(reactor);
+    row
+}
+
 pub fn scope_under(parent: u32) -> ScopeImage {
     let mut row = ScopeImage::empty();
     row.parent = MaybeScope::Scope(ScopeIndex(parent));
+    row
+}
+
+// The scope of a mode of reactor 0.
+pub fn mode_scope(mode: u32) -> ScopeImage {
+    let mut row = ScopeImage::empty();
+    row.mode = MaybeMode::Mode(ModeIndex(mode));
     row
 }
 
@@ -86,7 +142,7 @@ pub fn timed_route(
 }
 
 // A binding whose name is one byte of the batch text.
-pub fn binding(start: u32, kind: BindingKind) -> RequiredBindingImage {
+fn binding(start: u32, kind: BindingKind) -> RequiredBindingImage {
     let mut row = RequiredBindingImage::empty();
     row.id = place(start, 1);
     row.kind = kind;
@@ -96,4 +152,16 @@ pub fn binding(start: u32, kind: BindingKind) -> RequiredBindingImage {
 // S's binding, the state initializer `b`.
 pub fn binding_s() -> RequiredBindingImage {
     binding(1, BindingKind::StateInitializer)
+}
+
+pub fn port_binding(start: u32) -> RequiredBindingImage {
+    binding(start, BindingKind::Port)
+}
+
+pub fn action_binding(start: u32) -> RequiredBindingImage {
+    binding(start, BindingKind::Action)
+}
+
+pub fn reaction_binding(start: u32) -> RequiredBindingImage {
+    binding(start, BindingKind::Reaction)
 }

@@ -1,4 +1,6 @@
 // A line for each case: its name, and the answer of the check for its pack.
+ghost use Rattle.std.specs.Prelude.{◌<◌, ◌≤◌};
+
 use answers::Refusal;
 use cases::records;
 use cases::records::Record;
@@ -6,79 +8,61 @@ use enclave::EnclaveAnswer;
 use enclave::check::check_enclave;
 use federate::FederateAnswer;
 use federate::check::check_federate;
-use schema::rows::FederateImage;
-use std::alloc::{AllocError, Global};
+use std::io;
 
-// Adds records to a pack.
-fn add(pack: &mut Vec<u8>, records: &[Record]) -> Result<(), AllocError> {
-    for record in records {
-        pack.extend_from_slice(record)?;
-    }
-    Ok(())
+// Room for 32 records.
+pub type Pack = [u8; 2048];
+
+// Puts a record into a pack, as its record n.
+pub fn put(pack: &mut Pack, n: usize, bytes: Record)
+    requires { n < 32 }
+{
+    records::put(pack, n, bytes);
 }
 
-pub fn pack_of(alloc: Global, records: &[Record]) -> Result<Vec<u8>, AllocError> {
-    let mut pack = Vec::new(alloc);
-    add(&mut pack, records)?;
-    Ok(pack)
-}
-
-// Adds a refusal's number and the values after it.
-fn refused(out: &mut String, refusal: Refusal) -> Result<(), AllocError> {
+// The refusal's number and the values after it.
+fn show_refusal(rt: &HostRuntime, refusal: Refusal) -> io::Result<()> {
     let list = answers::numbers(refusal);
-    out.push_str("refused")?;
+    print!(rt; "refused")?;
     for n in list.values.iter().take(list.len) {
-        write!(out, " {n}")?;
+        print!(rt; " {n}")?;
     }
-    out.push_str("\n")
+    println!(rt; "")
 }
 
-// The answer for the bytes of a station.
-pub fn show_enclave_bytes(
-    out: &mut String,
-    name: &str,
-    pack: &[u8],
-    batch: &[u8],
-) -> Result<(), AllocError> {
-    out.push_str(name)?;
-    out.push_str(": ")?;
-    match check_enclave(pack, batch, b"") {
-        EnclaveAnswer::Accepted { links } => write!(out, "accepted {links}\n"),
-        EnclaveAnswer::Refused(refusal) => refused(out, refusal),
-    }
-}
-
-// The answer for the records of a station.
+// The first `len` bytes of a pack, as a station.
 pub fn show_enclave(
-    out: &mut String,
-    alloc: Global,
+    rt: &HostRuntime,
     name: &str,
-    records: &[Record],
+    pack: &Pack,
+    len: usize,
     batch: &[u8],
-) -> Result<(), AllocError> {
-    let pack = pack_of(alloc, records)?;
-    show_enclave_bytes(out, name, &pack, batch)
+) -> io::Result<()> {
+    if pack.len() < len {
+        return Ok(());
+    }
+    print!(rt; "{name}: ")?;
+    match check_enclave(&pack[..len], batch, b"") {
+        EnclaveAnswer::Accepted { links } => println!(rt; "accepted {links}"),
+        EnclaveAnswer::Refused(refusal) => show_refusal(rt, refusal),
+    }
 }
 
-// The answer for a line: its own record, and the records of each station.
+// The first records of a pack, as a line.
 pub fn show_federate(
-    out: &mut String,
-    alloc: Global,
+    rt: &HostRuntime,
     name: &str,
-    federate: FederateImage,
-    stations: &[&[Record]],
+    pack: &Pack,
+    records: usize,
     batch: &[u8],
-) -> Result<(), AllocError> {
-    let mut pack = pack_of(alloc, &[records::federate(federate)])?;
-    for station in stations {
-        add(&mut pack, station)?;
-    }
-    out.push_str(name)?;
-    out.push_str(": ")?;
-    match check_federate(&pack, batch, b"") {
+) -> io::Result<()>
+    requires { records ≤ 32 }
+{
+    print!(rt; "{name}: ")?;
+    match check_federate(&pack[..records * 64], batch, b"") {
         FederateAnswer::Accepted { enclaves, links } => {
-            write!(out, "accepted {enclaves} {links}\n")
+            println!(rt; "accepted {enclaves} {links}")
         }
-        FederateAnswer::Refused(refusal) => refused(out, refusal),
+        FederateAnswer::Refused(refusal) => show_refusal(rt, refusal),
     }
 }
