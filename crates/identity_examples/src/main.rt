@@ -4,14 +4,13 @@
 ghost use Rattle.std.specs.Prelude.{◌≤◌, length};
 
 use identity::IdentityPlace;
-use std::alloc::AllocError;
 use std::io;
 use std::io::Write;
 
-// Adds bytes in hexadecimal, or `-` where there are none.
-fn hex(out: &mut String, text: &[u8]) -> Result<(), AllocError> {
+// Writes bytes in hexadecimal, or `-` where there are none.
+fn hex<W: Write>(out: &mut W, text: &[u8]) -> io::Result<()> {
     if text.is_empty() {
-        out.push_str("-")?;
+        write!(out, "-")?;
     }
     for b in text {
         write!(out, "{b:02x}")?;
@@ -20,24 +19,24 @@ fn hex(out: &mut String, text: &[u8]) -> Result<(), AllocError> {
 }
 
 // A text, whether it is UTF-8, and whether it is a valid identity.
-fn show_text(out: &mut String, text: &[u8]) -> Result<(), AllocError> {
+fn show_text<W: Write>(out: &mut W, text: &[u8]) -> io::Result<()> {
     hex(out, text)?;
     let utf8 = if identity::scan::is_utf8(text) {
         " utf-8"
     } else {
         " malformed"
     };
-    out.push_str(utf8)?;
+    write!(out, "{utf8}")?;
     let valid = if identity::scan::valid_id(text) {
-        " valid\n"
+        " valid"
     } else {
-        " invalid\n"
+        " invalid"
     };
-    out.push_str(valid)
+    writeln!(out, "{valid}")
 }
 
 // A character of at most three bytes: before letters, after them, and between them.
-fn show_character(out: &mut String, character: &[u8], letters: &[u8]) -> Result<(), AllocError>
+fn show_character<W: Write>(out: &mut W, character: &[u8], letters: &[u8]) -> io::Result<()>
     requires { length letters.now ≤ 21 }
 {
     let n = character.len();
@@ -66,14 +65,8 @@ enum Shown {
 }
 
 // A heading, and texts or characters with bars between them.
-fn show_list(
-    out: &mut String,
-    shown: Shown,
-    heading: &str,
-    texts: &[u8],
-) -> Result<(), AllocError> {
-    out.push_str(heading)?;
-    out.push_str("\n")?;
+fn show_list<W: Write>(out: &mut W, shown: Shown, heading: &str, texts: &[u8]) -> io::Result<()> {
+    writeln!(out, "{heading}")?;
     for text in texts.split(|b| *b == b'|') {
         match shown {
             Shown::Text => show_text(out, text)?,
@@ -107,34 +100,33 @@ const BATCH: &[u8] = b"abcabd";
 const HOUSE: &[u8] = b"abc\xFFz";
 
 // A place, whether it is inside its text, and the text that it names.
-fn show_place(out: &mut String, name: &str) -> Result<(), AllocError> {
+fn show_place<W: Write>(out: &mut W, name: &str) -> io::Result<()> {
     let place = place(name);
     let inside = if identity::place::place_inside(BATCH, HOUSE, place) {
         " inside "
     } else {
         " outside "
     };
-    out.push_str(name)?;
-    out.push_str(inside)?;
+    write!(out, "{name}{inside}")?;
     hex(out, identity::place::identity_text(BATCH, HOUSE, place))?;
-    out.push_str("\n")
+    writeln!(out)
 }
 
 // Two places and the order of their texts.
-fn show_order(out: &mut String, names: &str) -> Result<(), AllocError> {
+fn show_order<W: Write>(out: &mut W, names: &str) -> io::Result<()> {
     let Some((left, right)) = names.split_once(' ') else {
         return Ok(());
     };
-    out.push_str(names)?;
+    write!(out, "{names}")?;
     match identity::compare::compare_utf8(BATCH, HOUSE, place(left), place(right)) {
-        0 => out.push_str(" 0\n"),
-        1 => out.push_str(" 1\n"),
-        -1 => out.push_str(" -1\n"),
-        _ => out.push_str(" ?\n"),
+        0 => writeln!(out, " 0"),
+        1 => writeln!(out, " 1"),
+        -1 => writeln!(out, " -1"),
+        _ => writeln!(out, " ?"),
     }
 }
 
-fn utf_8(out: &mut String) -> Result<(), AllocError> {
+fn utf_8<W: Write>(out: &mut W) -> io::Result<()> {
     show_list(
         out,
         Shown::Text,
@@ -169,7 +161,7 @@ fn utf_8(out: &mut String) -> Result<(), AllocError> {
     )
 }
 
-fn identities(out: &mut String) -> Result<(), AllocError> {
+fn identities<W: Write>(out: &mut W) -> io::Result<()> {
     show_list(
         out,
         Shown::Text,
@@ -189,14 +181,14 @@ fn identities(out: &mut String) -> Result<(), AllocError> {
 const SURROGATES: &[u8] =
     b"\xED\x9F\xBF|\xED\xA0\x80|\xED\xAF\xBF|\xED\xB0\x80|\xED\xBF\xBF|\xEE\x80\x80";
 
-fn surrogates(out: &mut String) -> Result<(), AllocError> {
+fn surrogates<W: Write>(out: &mut W) -> io::Result<()> {
     let heading = "surrogates and their neighbours: first, last and in the middle";
     show_list(out, Shown::Character, heading, SURROGATES)?;
     let heading = "surrogates and their neighbours in blocks: first, last and in the middle";
     show_list(out, Shown::InBlocks, heading, SURROGATES)
 }
 
-fn characters(out: &mut String) -> Result<(), AllocError> {
+fn characters<W: Write>(out: &mut W) -> io::Result<()> {
     show_list(
         out,
         Shown::Character,
@@ -221,12 +213,15 @@ fn characters(out: &mut String) -> Result<(), AllocError> {
     )
 }
 
-fn places(out: &mut String) -> Result<(), AllocError> {
-    out.push_str("places in the batch text abcabd and the house text abc FF z\n")?;
+fn places<W: Write>(out: &mut W) -> io::Result<()> {
+    writeln!(
+        out,
+        "places in the batch text abcabd and the house text abc FF z"
+    )?;
     for name in "b06|b07|b23|b51|b52|b60|b61|b70|b**|h05|h31|h50|h06|h60|h0*".split('|') {
         show_place(out, name)?;
     }
-    out.push_str("orders\n")?;
+    writeln!(out, "orders")?;
     for names in "b03 b03|b03 b33|b33 b03|b03 h03|h03 b33|b02 b03|b03 b32|b00 b01|b01 b00\
         |b60 h00|b07 b01|b01 h51|b70 h42|h31 h41|h41 h31|b01 h32"
         .split('|')
@@ -237,11 +232,10 @@ fn places(out: &mut String) -> Result<(), AllocError> {
 }
 
 fn main(rt: HostRuntime) -> io::Result<()> {
-    let mut out = String::new(rt.alloc());
+    let mut out = io::writer(&rt);
     utf_8(&mut out)?;
     surrogates(&mut out)?;
     identities(&mut out)?;
     characters(&mut out)?;
-    places(&mut out)?;
-    io::writer(&rt).write_all(out.as_bytes())
+    places(&mut out)
 }

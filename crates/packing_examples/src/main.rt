@@ -8,7 +8,6 @@ use packing::PackKind;
 use packing::rules::check_packing;
 use packing::starts::table_starts;
 use schema::lent::PACK_LIMIT;
-use std::alloc::{AllocError, Global};
 use std::io;
 use std::io::Write;
 
@@ -19,6 +18,9 @@ const USED: [u8; 25] = [
 
 const TEXT_LIMIT: usize = 65_536;
 
+// A record more than a pack may have.
+const MOST: usize = PACK_LIMIT + 64;
+
 // `ab`, and e with an acute accent.
 const BATCH: &[u8] = b"ab\xC3\xA9";
 
@@ -26,25 +28,25 @@ const BATCH: &[u8] = b"ab\xC3\xA9";
 const HOUSE: &[u8] = b"h\xFF";
 
 // Adds a refusal's number and the values after it.
-fn refused(out: &mut String, refusal: Refusal) -> Result<(), AllocError> {
+fn refused<W: Write>(out: &mut W, refusal: Refusal) -> io::Result<()> {
     let list = answers::numbers(refusal);
-    out.push_str(" refused")?;
+    write!(out, " refused")?;
     for n in list.values.iter().take(list.len) {
         write!(out, " {n}")?;
     }
-    out.push_str("\n")
+    writeln!(out)
 }
 
 // The answer for a pack over two texts.
-fn write_answer(
-    out: &mut String,
+fn write_answer<W: Write>(
+    out: &mut W,
     kind: PackKind,
     pack: &[u8],
     batch: &[u8],
     house: &[u8],
-) -> Result<(), AllocError> {
+) -> io::Result<()> {
     match check_packing(kind, pack, batch, house) {
-        Outcome::Passed => out.push_str(" packed\n"),
+        Outcome::Passed => writeln!(out, " packed"),
         Outcome::Refused(refusal) => refused(out, refusal),
     }
 }
@@ -61,24 +63,30 @@ fn digit(c: u8) -> u8
 }
 
 // Four digits in hexadecimal: a byte's place in its record, and its value.
-fn set_byte(record: &mut [u8; 64], item: &[u8]) {
+fn set_byte(record: &mut [u8], item: &[u8]) {
     if let [a, b, c, d] = item {
         let at = digit(*a) << 4 | digit(*b);
-        record[(at % 64) as usize] = digit(*c) << 4 | digit(*d);
+        if let Some(byte) = record.get_mut(usize::from(at)) {
+            *byte = digit(*c) << 4 | digit(*d);
+        }
     }
 }
 
-// The pack that a text names: records with slashes between them, bytes with blanks between them.
-fn build(alloc: Global, text: &str) -> Result<Vec<u8>, AllocError> {
-    let mut pack = Vec::new(alloc);
-    for items in text.split('/') {
-        let mut record = [0u8; 64];
+// Room for a record of each table.
+type Room = [u8; 1600];
+
+// Puts the pack that a text names at the start of the room, and answers its length: records with slashes between them, bytes with blanks
+// between them.
+fn build(room: &mut Room, text: &str) -> usize
+    ensures { result ≤ 1600 }
+{
+    for (record, items) in room.chunks_exact_mut(64).zip(text.split('/')) {
+        record.fill(0);
         for item in items.split(' ') {
-            set_byte(&mut record, item.as_bytes());
+            set_byte(record, item.as_bytes());
         }
-        pack.extend_from_slice(&record)?;
     }
-    Ok(pack)
+    text.split('/').count().min(25) * 64
 }
 
 // The place of the first bar from `at` on, or the list's end.
@@ -98,22 +106,16 @@ fn bar(list: &[u8], at: usize) -> usize
 }
 
 // A heading, and each pack of a list that has bars between them.
-fn show_packs(
-    out: &mut String,
-    alloc: Global,
-    kind: PackKind,
-    heading: &str,
-    packs: &str,
-) -> Result<(), AllocError> {
-    out.push_str(heading)?;
-    out.push_str("\n")?;
+fn show_packs<W: Write>(out: &mut W, kind: PackKind, heading: &str, packs: &str) -> io::Result<()> {
+    writeln!(out, "{heading}")?;
+    let mut room = [0u8; 1600];
     let mut at = 0;
     while at <= packs.len() {
         let end = bar(packs.as_bytes(), at);
         if let Some(text) = packs.get(at..end) {
-            let pack = build(alloc, text)?;
-            out.push_str(text)?;
-            write_answer(out, kind, &pack, BATCH, HOUSE)?;
+            let len = build(&mut room, text);
+            write!(out, "{text}")?;
+            write_answer(out, kind, &room[..len], BATCH, HOUSE)?;
         }
         at = end + 1;
     }
@@ -121,7 +123,7 @@ fn show_packs(
 }
 
 // A record of a table with one byte set: alone where it is the first of its pack, else after an enclave's.
-fn show_byte(out: &mut String, table: u8, at: u8, value: u8) -> Result<(), AllocError> {
+fn show_byte<W: Write>(out: &mut W, table: u8, at: u8, value: u8) -> io::Result<()> {
     let kind = if table == 0 {
         PackKind::Federate
     } else {
@@ -137,7 +139,7 @@ fn show_byte(out: &mut String, table: u8, at: u8, value: u8) -> Result<(), Alloc
 }
 
 // Each bit of bytes 1 to 3, the last used byte, the first unused one and the last one.
-fn show_table(out: &mut String, table: u8, used: u8) -> Result<(), AllocError> {
+fn show_table<W: Write>(out: &mut W, table: u8, used: u8) -> io::Result<()> {
     for at in 1..4 {
         for bit in [1, 2, 4, 8, 16, 32, 64, 128] {
             show_byte(out, table, at, bit)?;
@@ -150,18 +152,17 @@ fn show_table(out: &mut String, table: u8, used: u8) -> Result<(), AllocError> {
     show_byte(out, table, 63, 128)
 }
 
-fn tables(out: &mut String) -> Result<(), AllocError> {
-    out.push_str("one byte of a record\n")?;
+fn tables<W: Write>(out: &mut W) -> io::Result<()> {
+    writeln!(out, "one byte of a record")?;
     for table in 0..25 {
         show_table(out, table, USED[table as usize])?;
     }
     Ok(())
 }
 
-fn order(out: &mut String, alloc: Global) -> Result<(), AllocError> {
+fn order<W: Write>(out: &mut W) -> io::Result<()> {
     show_packs(
         out,
-        alloc,
         PackKind::Enclave,
         "tables of an enclave pack",
         "0000|0001|0002|0018|0019|00FF|0001/0000|0001/0001|0001/0002|0001/0018|0001/0019|0001/00FF\
@@ -171,7 +172,6 @@ fn order(out: &mut String, alloc: Global) -> Result<(), AllocError> {
     )?;
     show_packs(
         out,
-        alloc,
         PackKind::Federate,
         "tables of a federate pack",
         "0000|0001|0002|0019|0000/0000|0000/0001|0000/0002|0000/0018|0000/0019|0000/0001/0000\
@@ -180,10 +180,9 @@ fn order(out: &mut String, alloc: Global) -> Result<(), AllocError> {
     )
 }
 
-fn fields(out: &mut String, alloc: Global) -> Result<(), AllocError> {
+fn fields<W: Write>(out: &mut W) -> io::Result<()> {
     show_packs(
         out,
-        alloc,
         PackKind::Enclave,
         "fields with and without their presence bit",
         "0001/0002 2001|0001/0002 2301|0001/0002 0101 2301|0001/0002 0102 2301|0001/0002 2401\
@@ -195,7 +194,6 @@ fn fields(out: &mut String, alloc: Global) -> Result<(), AllocError> {
     )?;
     show_packs(
         out,
-        alloc,
         PackKind::Enclave,
         "kinds of actions and reactions",
         "0001/0003 0200|0001/0003 0201|0001/0003 0202|0001/0003 0203|0001/0003 0204\
@@ -207,10 +205,9 @@ fn fields(out: &mut String, alloc: Global) -> Result<(), AllocError> {
     )
 }
 
-fn identities(out: &mut String, alloc: Global) -> Result<(), AllocError> {
+fn identities<W: Write>(out: &mut W) -> io::Result<()> {
     show_packs(
         out,
-        alloc,
         PackKind::Enclave,
         "identities in the batch text and in the house text",
         "0001 0B02|0001 0B04|0001 0B05|0001 0704|0001 0705|0001 0704 0B01|0001 0703 0B02|0001 0702 0B02\
@@ -221,7 +218,6 @@ fn identities(out: &mut String, alloc: Global) -> Result<(), AllocError> {
     )?;
     show_packs(
         out,
-        alloc,
         PackKind::Federate,
         "the three identities of a federate",
         "0000 0B05|0000 1305|0000 1B05|0000 0B03|0000 1303|0000 1B03|0000 0B03 1305|0000 0B05 1303\
@@ -230,7 +226,6 @@ fn identities(out: &mut String, alloc: Global) -> Result<(), AllocError> {
     )?;
     show_packs(
         out,
-        alloc,
         PackKind::Enclave,
         "the first check that fails",
         "0001 0703 0B01/0001|0001 0B05/0001|0001/0001 3F01|0001 3F01 0B05|0001/0003 0102/0002|0001/0002 3F01/0019",
@@ -238,7 +233,7 @@ fn identities(out: &mut String, alloc: Global) -> Result<(), AllocError> {
 }
 
 // An enclave whose identity has 65,536 bytes.
-fn show_texts(out: &mut String, batch: &[u8], house: &[u8]) -> Result<(), AllocError> {
+fn show_texts<W: Write>(out: &mut W, batch: &[u8], house: &[u8]) -> io::Result<()> {
     let mut pack = [0u8; 64];
     pack[0] = 1;
     pack[9] = 1;
@@ -246,27 +241,31 @@ fn show_texts(out: &mut String, batch: &[u8], house: &[u8]) -> Result<(), AllocE
     write_answer(out, PackKind::Enclave, &pack, batch, house)
 }
 
-fn texts(out: &mut String, alloc: Global) -> Result<(), AllocError> {
-    out.push_str("lengths of the texts, the batch text first; the identity has 65,536 bytes\n")?;
-    let long = vec![in alloc; 0u8; TEXT_LIMIT + 1]?;
-    let most = vec![in alloc; 0u8; TEXT_LIMIT]?;
-    let fewer = vec![in alloc; 0u8; TEXT_LIMIT - 1]?;
+fn texts<W: Write>(out: &mut W) -> io::Result<()> {
+    writeln!(
+        out,
+        "lengths of the texts, the batch text first; the identity has 65,536 bytes"
+    )?;
+    let long = [0u8; TEXT_LIMIT + 1];
+    let most = &long[..TEXT_LIMIT];
+    let fewer = &long[..TEXT_LIMIT - 1];
     show_texts(out, b"", b"")?;
-    show_texts(out, &fewer, b"")?;
-    show_texts(out, &most, &most)?;
-    show_texts(out, &long, &most)?;
-    show_texts(out, &most, &long)?;
+    show_texts(out, fewer, b"")?;
+    show_texts(out, most, most)?;
+    show_texts(out, &long, most)?;
+    show_texts(out, most, &long)?;
     show_texts(out, &long, &long)
 }
 
-// An enclave and rows of table 9: up to one record more than a pack may have.
-fn lengths(out: &mut String, alloc: Global) -> Result<(), AllocError> {
-    out.push_str("lengths of the pack\n")?;
-    let mut pack = vec![in alloc; 0u8; PACK_LIMIT + 64]?;
+// An enclave and rows of table 9, in room for one record more than a pack may have.
+fn lengths<W: Write>(out: &mut W, pack: &mut [u8]) -> io::Result<()> {
+    writeln!(out, "lengths of the pack")?;
     for record in pack.chunks_exact_mut(64) {
         record[0] = 9;
     }
-    pack[0] = 1;
+    if let Some(first) = pack.first_mut() {
+        *first = 1;
+    }
     for len in [
         0,
         63,
@@ -286,39 +285,45 @@ fn lengths(out: &mut String, alloc: Global) -> Result<(), AllocError> {
     Ok(())
 }
 
-// Where the tables of the enclave begin whose rows start at record `rows`.
-fn show_starts(out: &mut String, alloc: Global, text: &str, rows: u32) -> Result<(), AllocError> {
-    let pack = build(alloc, text)?;
-    write!(out, "{text} from {rows}:")?;
-    for start in &table_starts(&pack, rows) {
-        write!(out, " {start}")?;
-    }
-    out.push_str("\n")
+fn lengths_within<const ROOM: usize>(rt: &HostRuntime) -> io::Result<()>
+    requires { ROOM ≤ 8388608 }
+{
+    lengths(&mut io::writer(rt), &mut [0u8; ROOM])
 }
 
-fn starts(out: &mut String, alloc: Global) -> Result<(), AllocError> {
-    out.push_str("where the tables begin\n")?;
-    show_starts(out, alloc, "0001", 1)?;
-    show_starts(out, alloc, "0001", 9)?;
-    show_starts(out, alloc, "0001/0002/0007/0007/0018", 1)?;
-    show_starts(out, alloc, "0001/0003/0003/0018/0018", 1)?;
+// Where the tables of the enclave begin whose rows start at record `rows`.
+fn show_starts<W: Write>(out: &mut W, text: &str, rows: u32) -> io::Result<()> {
+    let mut room = [0u8; 1600];
+    let len = build(&mut room, text);
+    write!(out, "{text} from {rows}:")?;
+    for start in &table_starts(&room[..len], rows) {
+        write!(out, " {start}")?;
+    }
+    writeln!(out)
+}
+
+fn starts<W: Write>(out: &mut W) -> io::Result<()> {
+    writeln!(out, "where the tables begin")?;
+    show_starts(out, "0001", 1)?;
+    show_starts(out, "0001", 9)?;
+    show_starts(out, "0001/0002/0007/0007/0018", 1)?;
+    show_starts(out, "0001/0003/0003/0018/0018", 1)?;
     let line = "0000/0001/0002/0002/0005/0001/0003/0016";
-    show_starts(out, alloc, line, 2)?;
-    show_starts(out, alloc, line, 6)?;
-    show_starts(out, alloc, "0000/0001/0001/0002", 2)?;
+    show_starts(out, line, 2)?;
+    show_starts(out, line, 6)?;
+    show_starts(out, "0000/0001/0001/0002", 2)?;
     let each_table = "0001/0002/0003/0004/0005/0006/0007/0008/0009/000A/000B/000C/000D/000E\
         /000F/0010/0011/0012/0013/0014/0015/0016/0017/0018";
-    show_starts(out, alloc, each_table, 1)
+    show_starts(out, each_table, 1)
 }
 
 fn main(rt: HostRuntime) -> io::Result<()> {
-    let mut out = String::new(rt.alloc());
-    lengths(&mut out, rt.alloc())?;
-    texts(&mut out, rt.alloc())?;
-    order(&mut out, rt.alloc())?;
-    fields(&mut out, rt.alloc())?;
-    identities(&mut out, rt.alloc())?;
+    lengths_within::<MOST>(&rt)?;
+    let mut out = io::writer(&rt);
+    texts(&mut out)?;
+    order(&mut out)?;
+    fields(&mut out)?;
+    identities(&mut out)?;
     tables(&mut out)?;
-    starts(&mut out, rt.alloc())?;
-    io::writer(&rt).write_all(out.as_bytes())
+    starts(&mut out)
 }

@@ -1,4 +1,4 @@
-// The answer of a question, by its kind.
+// The answer of a case.
 use answers::Refusal;
 use enclave::EnclaveAnswer;
 use enclave::check::check_enclave;
@@ -29,7 +29,7 @@ fn federate_answer(pack: &[u8], batch: &[u8], house: &[u8]) -> Answer {
     }
 }
 
-// The answer of a question whose first byte is `kind`.
+// The answer of a case whose first byte is `kind`.
 pub fn answer_of(kind: u8, pack: &[u8], batch: &[u8], house: &[u8]) -> Answer {
     match kind {
         0 => enclave_answer(pack, batch, house),

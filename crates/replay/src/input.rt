@@ -1,21 +1,23 @@
-// Reading a corpus, question by question. Its numbers go high byte first.
-use std::alloc::Global;
+// Reading a corpus, case by case. Its numbers go high byte first.
+ghost use Rattle.std.specs.Prelude.{◌≤◌, length, IfOk};
+ghost use Rattle.replay.specs.Within.{Within};
+
 use std::io;
 use std::io::{BufRead, ErrorKind, Read};
 
-// A byte more than a pack or a text may have is kept: the answer does not depend on the rest.
-const PACK_ROOM: u32 = 4_194_305;
-
-const TEXT_ROOM: u32 = 65_537;
-
-// What comes next: a question, of which this is the first byte, or the end of the corpus, or of one that is cut off.
+// What comes next: a case, with its first byte and how many bytes of each part were kept, a case that is cut off, or the corpus's end.
 pub enum Next {
-    Case(u8),
+    Case {
+        kind: u8,
+        pack: usize,
+        batch: usize,
+        house: usize,
+    },
     CutOff,
     End,
 }
 
-// What ends the reading of a question.
+// What ends the reading of a case.
 #[derive(Drop)]
 enum Stop {
     CutOff,
@@ -31,73 +33,15 @@ impl From<io::Error> for Stop {
     }
 }
 
-// The byte strings of a question, whose room serves the next one too.
-#[derive(Drop)]
-pub struct Texts {
-    pub pack: Vec<u8>,
-    pub batch: Vec<u8>,
-    pub house: Vec<u8>,
-}
-
-impl Texts {
-    pub fn new(alloc: Global) -> Texts {
-        Texts {
-            pack: Vec::new(alloc),
-            batch: Vec::new(alloc),
-            house: Vec::new(alloc),
-        }
-    }
-
-    // Takes the three lengths, and then the three byte strings.
-    fn read<R: BufRead>(&mut self, input: &mut R) -> Result<(), Stop> {
-        let pack = read_u32(input)?;
-        let batch = read_u32(input)?;
-        let house = read_u32(input)?;
-        read_bytes(input, pack, PACK_ROOM, &mut self.pack)?;
-        read_bytes(input, batch, TEXT_ROOM, &mut self.batch)?;
-        read_bytes(input, house, TEXT_ROOM, &mut self.house)
-    }
-}
-
-// Takes the next question.
-pub fn read_case<R: BufRead>(input: &mut R, texts: &mut Texts) -> io::Result<Next> {
-    if input.fill_buf()?.is_empty() {
-        return Ok(Next::End);
-    }
-    let mut kind = [0u8; 1];
-    input.read_exact(&mut kind)?;
-    match texts.read(input) {
-        Ok(()) => Ok(Next::Case(kind[0])),
-        Err(Stop::CutOff) => Ok(Next::CutOff),
-        Err(Stop::Failed(error)) => Err(error),
-    }
-}
-
 fn read_u32<R: Read>(input: &mut R) -> Result<u32, Stop> {
     let mut bytes = [0u8; 4];
     input.read_exact(&mut bytes)?;
     Ok(u32::from_be_bytes(bytes))
 }
 
-// Takes `len` bytes, and keeps the first of them, as many as there is room for, in the place of what stands there.
-fn read_bytes<R: BufRead>(
-    input: &mut R,
-    len: u32,
-    room: u32,
-    bytes: &mut Vec<u8>,
-) -> Result<(), Stop> {
-    bytes.clear();
-    let kept = len.min(room);
-    let taken = input.by_ref().take(u64::from(kept)).read_to_end(bytes)?;
-    if taken < kept as usize {
-        return Err(Stop::CutOff);
-    }
-    pass_over(input, len - kept)
-}
-
 // Takes bytes that are not kept.
-fn pass_over<R: BufRead>(input: &mut R, len: u32) -> Result<(), Stop> {
-    let mut left = len as usize;
+fn pass_over<R: BufRead>(input: &mut R, len: usize) -> Result<(), Stop> {
+    let mut left = len;
     while 0 < left {
         let n = input.fill_buf()?.len().min(left);
         if n == 0 {
@@ -107,4 +51,57 @@ fn pass_over<R: BufRead>(input: &mut R, len: u32) -> Result<(), Stop> {
         left -= n;
     }
     Ok(())
+}
+
+// Takes `len` bytes, keeps as many as `part` has room for, and answers how many these are.
+fn take<R: BufRead>(input: &mut R, part: &mut [u8], len: u32) -> Result<usize, Stop>
+    ensures { IfOk result (λ n. n ≤ length part.new) }
+{
+    let len = len as usize;
+    let kept = len.min(part.len());
+    input.read_exact(&mut part[..kept])?;
+    pass_over(input, len - kept)?;
+    Ok(kept)
+}
+
+// Takes the parts of a case whose first byte is `kind`.
+fn read_parts<R: BufRead>(
+    kind: u8,
+    input: &mut R,
+    pack: &mut [u8],
+    batch: &mut [u8],
+    house: &mut [u8],
+) -> Result<Next, Stop>
+    ensures { IfOk result (λ n. Within n (length pack.new) (length batch.new) (length house.new)) }
+{
+    let pack_len = read_u32(input)?;
+    let batch_len = read_u32(input)?;
+    let house_len = read_u32(input)?;
+    Ok(Next::Case {
+        kind,
+        pack: take(input, pack, pack_len)?,
+        batch: take(input, batch, batch_len)?,
+        house: take(input, house, house_len)?,
+    })
+}
+
+// Takes the next case.
+pub fn read_case<R: BufRead>(
+    input: &mut R,
+    pack: &mut [u8],
+    batch: &mut [u8],
+    house: &mut [u8],
+) -> io::Result<Next>
+    ensures { IfOk result (λ n. Within n (length pack.new) (length batch.new) (length house.new)) }
+{
+    if input.fill_buf()?.is_empty() {
+        return Ok(Next::End);
+    }
+    let mut kind = [0u8; 1];
+    input.read_exact(&mut kind)?;
+    match read_parts(kind[0], input, pack, batch, house) {
+        Ok(next) => Ok(next),
+        Err(Stop::CutOff) => Ok(Next::CutOff),
+        Err(Stop::Failed(error)) => Err(error),
+    }
 }

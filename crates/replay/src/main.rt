@@ -1,4 +1,4 @@
-// Answers a corpus on standard input, one line for each question on standard output.
+// Answers a corpus on standard input, one line per case on standard output.
 #![tactic(auto)]
 
 mod answer;
@@ -6,14 +6,25 @@ mod corpus;
 mod input;
 mod output;
 
+ghost use Rattle.std.specs.Prelude.{◌≤◌};
+
 use std::io;
-use std::io::{BufReader, BufWriter, Write};
 
-const BUFFER: usize = 65_536;
+// With room for so many bytes of a pack and of each text.
+fn answer_with<const PACK: usize, const TEXT: usize>(rt: &HostRuntime) -> io::Result<()>
+    requires pack { PACK ≤ 8388608 }
+    requires text { TEXT ≤ 8388608 }
+{
+    corpus::answer_all(
+        &mut rt.reader(),
+        &mut [0u8; PACK],
+        &mut [0u8; TEXT],
+        &mut [0u8; TEXT],
+        &mut io::writer(rt),
+    )
+}
 
+// A byte more than a pack or a text may have is kept: the answer does not depend on the rest.
 fn main(rt: HostRuntime) -> io::Result<()> {
-    let mut input = BufReader::with_capacity(rt.alloc(), BUFFER, rt.reader())?;
-    let mut output = BufWriter::with_capacity(rt.alloc(), BUFFER, io::writer(&rt))?;
-    corpus::answer_all(rt.alloc(), &mut input, &mut output)?;
-    output.flush()
+    answer_with::<4_194_305, 65_537>(&rt)
 }

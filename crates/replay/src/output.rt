@@ -1,8 +1,24 @@
-// Answer lines.
+// Answer lines, written a buffer at a time.
 use crate::answer::Answer;
 use answers::Refusal;
+use arrayvec::ArrayVec;
 use std::io;
 use std::io::Write;
+
+// Lines that are not written yet.
+pub type Lines = ArrayVec<u8, 8192>;
+
+// The most bytes that a line has.
+const LINE: usize = 192;
+
+// Writes the lines where there is no room for one more, and in any case where it is said.
+pub fn flush<W: Write>(output: &mut W, lines: &mut Lines, now: bool) -> io::Result<()> {
+    if now || lines.capacity() - lines.len() < LINE {
+        output.write_all(lines.as_slice())?;
+        lines.clear();
+    }
+    Ok(())
+}
 
 // The refusal's number and the values after it, eight at most.
 fn put_refusal<W: Write>(output: &mut W, refusal: Refusal) -> io::Result<()> {
