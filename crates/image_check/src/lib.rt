@@ -1,4 +1,4 @@
-// Both checks for a host in another language: the answer as document 01's numbers, in eight numbers that the host lends.
+// Both checks as a host in another language asks them: the answer as document 01's numbers, in eight numbers that the host lends.
 #![tactic(auto, using(crate::proofs::Filled::filled_refusal, crate::proofs::Filled::few_numbers))]
 
 ghost use Rattle.enclave.specs.Answer.{answer_numbers, enclave_answer};
@@ -38,8 +38,7 @@ fn federate_numbers(answer: FederateAnswer) -> NumberList
 }
 
 // The answer for an enclave pack and its two texts; the result is how many of `numbers` hold it.
-#[unsafe(no_mangle)]
-pub extern "C" fn check_enclave_image<'a>(
+pub fn check_enclave_image<'a>(
     pack: &'a [u8],
     batch: &'a [u8],
     house: &'a [u8],
@@ -54,8 +53,7 @@ pub extern "C" fn check_enclave_image<'a>(
 }
 
 // The answer for a federate pack and its two texts; the result is how many of `numbers` hold it.
-#[unsafe(no_mangle)]
-pub extern "C" fn check_federate_image<'a>(
+pub fn check_federate_image<'a>(
     pack: &'a [u8],
     batch: &'a [u8],
     house: &'a [u8],
