@@ -1,5 +1,5 @@
 -- What reading three files comes to. Assumes nothing.
-use Rattle.std.specs.Prelude.{ℕ, ◌≤◌, Bool, true, false, ◌||◌, cond, nat_lt, Option, Some, None, if◌then◌else◌}
+use Rattle.std.specs.Prelude.{ℕ, ◌≤◌, Bool, true, false, ◌||◌, cond, nat_lt, nat_le, Option, Some, None, if◌then◌else◌}
 use Rattle.line_check.specs.declared.files.FileRead.{FileRead}
 use Rattle.line_check.specs.declared.files.FileRead.TheVariants as file
 use Rattle.line_check.specs.declared.files.Files.{Files}
@@ -20,10 +20,10 @@ is_too_long (file.Read n) = false
 is_too_long file.NoFile = false
 is_too_long file.TooLong = true
 
--- a file of which so many bytes were read, up to one byte past the limit; None stands for one that cannot be read
-abbrev pub file_of : Option ℕ → FileRead
-file_of (Some n) = if nat_lt 65536 n then file.TooLong else file.Read n
-file_of None = file.NoFile
+-- a file of which so many bytes were read into a room of k bytes: too long where there are more than 65,536, or where the room is full and more may be there; None stands for one that cannot be read
+abbrev pub file_of : Option ℕ → ℕ → FileRead
+file_of (Some n) k = if nat_lt 65536 n || nat_le k n then file.TooLong else file.Read n
+file_of None k = file.NoFile
 
 -- what was read lies in room for k bytes
 abbrev pub Within : FileRead → ℕ → Type 0

@@ -5,10 +5,11 @@ ghost use Rattle.line_check.specs.Files.{bytes_read, is_missing, is_too_long, fi
 use std::io::Read;
 use std::{fs, io, rt, str};
 
-// The most bytes that a file of a line image may have. There is room for one more, by which a longer file is told.
+// The most bytes that a file of a line image may have.
 const LIMIT: usize = 65_536;
 
-pub const ROOM: usize = 65_537;
+// Room for one more, by which a longer file is told.
+pub const ROOM: usize = LIMIT + 1;
 
 // What reading one file came to.
 #[derive(Clone, Copy)]
@@ -57,22 +58,23 @@ fn read_room<R: rt::Files>(rt: &R, path: &[u8], room: &mut [u8]) -> Option<usize
     }
 }
 
-// What a file came to of which so many bytes stand in the room.
-fn file_of(read: Option<usize>) -> FileRead
-    ensures { result ≡ file_of read }
+// What a file came to of which so many bytes stand in a room of this length: one that fills it may go on.
+fn file_of(read: Option<usize>, room: usize) -> FileRead
+    ensures { result ≡ file_of read room }
 {
     match read {
-        Some(n) if LIMIT < n => FileRead::TooLong,
+        Some(n) if LIMIT < n || room <= n => FileRead::TooLong,
         Some(n) => FileRead::Read(n),
         None => FileRead::NoFile,
     }
 }
 
-// Reads the file of that name into the room.
+// Reads the file of that name into the room, which has a byte more than the longest file that fits.
 pub fn read_file<R: rt::Files>(rt: &R, path: &[u8], room: &mut [u8]) -> FileRead
     ensures { Within result (length room.new) }
 {
-    file_of(read_room(rt, path, room))
+    let read = read_room(rt, path, room);
+    file_of(read, room.len())
 }
 
 fn bytes_read(file: FileRead) -> usize

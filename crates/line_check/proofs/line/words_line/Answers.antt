@@ -1,3 +1,4 @@
+-- All numbers are written, so that the line's end is left.
 use Rattle.std.proofs.Common.{arith, ◌∙◌}
 use Rattle.line_check.proofs.Lines.{line_ends}
 use Rattle.line_check.proofs.line.words_line.Goals as goal
