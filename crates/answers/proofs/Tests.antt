@@ -36,6 +36,11 @@ pub fails : {b : Bool} (xs ys : List Check) → b ≡ is_passed (first xs) → n
 fails {b = true} xs ys e n = absurd (true≢false (sym n))
 fails {b = false} xs ys e n = by-refused (first xs) xs ys refl e
 
+-- where it does not hold, what follows them does not count
+pub stopped : {cs : List Check} {o : Outcome} {b : Bool} (ds : List Check) → Decides cs o → b ≡ is_passed (first cs) → not b ≡ true → Decides (cs ++ ds) o
+stopped {o = Passed} ds d e n = absurd (true≢false (sym n ∙ rw (e, ← d.is) refl))
+stopped {cs} {o = Refused r} ds d e n = record { is = sym (first_stops cs ds (sym d.is)) }
+
 not-true : {b : Bool} → not b ≡ false → b ≡ true
 not-true {b = true} e = refl
 not-true {b = false} e = absurd (true≢false e)
