@@ -1,5 +1,6 @@
-#![tactic(auto)]
 // The text of an identity: its scalars, whether it is valid, the part of a text that it names, the order by byte.
+#![tactic(auto)]
+
 pub mod compare;
 pub mod decode;
 pub mod place;

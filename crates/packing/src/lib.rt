@@ -1,5 +1,6 @@
-#![tactic(auto)]
 // The packing rules of a pack, record by record, and where each table of an enclave begins.
+#![tactic(auto)]
+
 pub mod clean;
 pub mod rows;
 pub mod rules;

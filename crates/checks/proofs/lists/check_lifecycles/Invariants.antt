@@ -1,3 +1,4 @@
+-- The checks of the entries from k on are left.
 use Rattle.answers.proofs.Loops.{Remaining}
 use Rattle.checks.specs.Image.{image_of}
 use Rattle.checks.specs.Lists.{lifecycle_checks}

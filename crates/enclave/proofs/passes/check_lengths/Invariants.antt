@@ -1,3 +1,4 @@
+-- The lengths from i on are left.
 use Rattle.answers.proofs.Loops.{Remaining}
 use Rattle.checks.specs.Image.{image_of}
 use Rattle.enclave.specs.Passes.{length_checks}

@@ -1,3 +1,4 @@
+-- The enclaves before record n pass, and what is kept of them is known; each turn goes on to a later record.
 use Rattle.std.proofs.Common.{◌≡◌, ◌<◌, ◌-◌, true}
 use Rattle.schema.specs.Records.{records_of, is_of}
 use Rattle.federate.proofs.EnclaveLaws.{Before}

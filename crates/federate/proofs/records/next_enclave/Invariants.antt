@@ -1,3 +1,4 @@
+-- No record from n up to k is an enclave's; each turn looks at one more.
 use Rattle.std.proofs.Common.{◌≡◌, ◌-◌, ◌/◌, length}
 use Rattle.schema.specs.Records.{records_of}
 use Rattle.federate.specs.Records.{enclave_from}

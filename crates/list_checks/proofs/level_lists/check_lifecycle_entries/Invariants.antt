@@ -1,3 +1,4 @@
+-- The checks of the entries from i on are left.
 use Rattle.answers.proofs.Loops.{Remaining}
 use Rattle.checks.specs.Image.{image_of}
 use Rattle.list_checks.specs.ListTables.{lifecycle_entry_checks}

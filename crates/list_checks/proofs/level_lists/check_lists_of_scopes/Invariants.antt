@@ -1,3 +1,4 @@
+-- The lists of the scopes from i on are left.
 use Rattle.answers.proofs.Loops.{Remaining}
 use Rattle.checks.specs.Image.{image_of}
 use Rattle.list_checks.specs.ListTables.{scope_list_checks}

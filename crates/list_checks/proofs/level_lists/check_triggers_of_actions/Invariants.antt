@@ -1,3 +1,4 @@
+-- The triggers of the actions from i on are left.
 use Rattle.answers.proofs.Loops.{Remaining}
 use Rattle.checks.specs.Image.{image_of}
 use Rattle.list_checks.specs.ListTables.{action_trigger_checks}

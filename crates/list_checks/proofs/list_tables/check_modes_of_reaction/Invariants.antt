@@ -1,3 +1,4 @@
+-- The enabled modes from k on are left.
 use Rattle.answers.proofs.Loops.{Remaining}
 use Rattle.checks.specs.Image.{image_of}
 use Rattle.list_checks.specs.ListTables.{enabled_mode_checks}

@@ -1,3 +1,4 @@
+-- The checks of the entries from i on are left.
 use Rattle.answers.specs.Fields as field
 use Rattle.answers.proofs.Loops.{Remaining}
 use Rattle.checks.specs.Image.{image_of}

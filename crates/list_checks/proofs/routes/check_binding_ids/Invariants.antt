@@ -1,3 +1,4 @@
+-- The bindings from i on are left, and the text of the one before is at hand.
 use Rattle.std.proofs.Common.{◌≡◌, ◌-◌}
 use Rattle.answers.proofs.Loops.{Remaining}
 use Rattle.checks.specs.Image.{image_of}

@@ -1,3 +1,4 @@
+-- The routes from i on are left, and the text and direction of the one before are at hand.
 use Rattle.std.proofs.Common.{◌≡◌, ◌-◌}
 use Rattle.answers.proofs.Loops.{Remaining}
 use Rattle.checks.specs.Image.{image_of}

@@ -1,3 +1,4 @@
+-- Where there is no route, no record is at fault.
 use Rattle.std.proofs.Common.{arith}
 use Rattle.route_pairs.specs.RouteOrder.{text_of}
 use Rattle.route_pairs.proofs.FirstFault.{no_routes}

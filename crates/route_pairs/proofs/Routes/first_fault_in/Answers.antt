@@ -1,3 +1,4 @@
+-- The least misfit of the sorted routes is the first at fault.
 use Rattle.route_pairs.specs.RouteOrder.{text_of}
 use Rattle.route_pairs.proofs.FirstFault.{fault_decides}
 use Rattle.route_pairs.proofs.Routes.first_fault_in.Goals as goal

@@ -1,3 +1,4 @@
+-- The halves before record k are counted, and are no more than the records.
 use Rattle.std.proofs.Common.{◌≡◌, ◌≤◌}
 use Rattle.schema.specs.Records.{count_below}
 use Rattle.route_pairs.specs.RoutePairs.{half_at}

@@ -1,3 +1,4 @@
+-- The rows before place k are looked at.
 use Rattle.route_pairs.specs.RouteOrder.{text_of, Scanned}
 use Rattle.route_pairs.proofs.Routes.least_misfit.Given as goal
 

@@ -1,3 +1,4 @@
+-- The routes before record n stand in order at the start.
 use Rattle.std.proofs.Common.{◌≡◌, length, take}
 use Rattle.route_pairs.specs.RouteOrder.{routes_below}
 use Rattle.route_pairs.proofs.Routes.list.Given as goal

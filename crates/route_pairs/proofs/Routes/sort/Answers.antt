@@ -1,3 +1,4 @@
+-- What std's sort says of its order, said of the order of rows.
 use Rattle.std.proofs.Common.{rules}
 use Rattle.route_pairs.specs.RouteOrder.{text_of, boundary_at}
 use Rattle.route_pairs.proofs.Order.{sorted_rows, in_order}

@@ -1,3 +1,4 @@
+-- The actions from i on are left, and the end of the range before is at hand.
 use Rattle.std.proofs.Common.{◌≡◌}
 use Rattle.answers.proofs.Loops.{Remaining}
 use Rattle.checks.specs.Image.{image_of}

@@ -1,3 +1,4 @@
+-- The modes from i on are left.
 use Rattle.answers.proofs.Loops.{Remaining}
 use Rattle.checks.specs.Image.{image_of}
 use Rattle.row_checks.specs.Modes.{mode_checks}

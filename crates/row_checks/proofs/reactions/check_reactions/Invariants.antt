@@ -1,3 +1,4 @@
+-- The reactions from i on are left, and the ends of the ranges before are at hand.
 use Rattle.std.proofs.Common.{◌≡◌}
 use Rattle.answers.proofs.Loops.{Remaining}
 use Rattle.checks.specs.Image.{image_of}

@@ -1,3 +1,4 @@
+-- The scopes from i on are left, the links of those before are summed, and what stands in the depths is right.
 use Rattle.std.proofs.Common.{◌≡◌}
 use Rattle.answers.proofs.Loops.{Remaining}
 use Rattle.checks.specs.Image.{image_of}

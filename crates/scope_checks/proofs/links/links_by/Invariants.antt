@@ -1,3 +1,4 @@
+-- The links of the scope are those followed and those of the scope at hand.
 use Rattle.std.proofs.Common.{◌≡◌, ◌+◌, ◌-◌}
 use Rattle.checks.specs.Image.{image_of}
 use Rattle.scope_checks.specs.Links.{followed, links_of, parents}

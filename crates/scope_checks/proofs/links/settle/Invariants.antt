@@ -1,3 +1,4 @@
+-- What stands in the depths is right, and so is the depth at hand; each turn goes a link up.
 use Rattle.std.proofs.Common.{◌≡◌, ◌+◌, ◌≤◌}
 use Rattle.checks.specs.Image.{image_of}
 use Rattle.scope_checks.specs.Links.{links_of, parents}

@@ -1,3 +1,4 @@
+-- A row that its table has lies before the enclave's end, and so in the pack.
 use Rattle.std.proofs.Common.{refl, arith}
 use Rattle.schema.proofs.Tables.{row_inside}
 use Rattle.schema.proofs.lent.Enclave.record.Goals as goal

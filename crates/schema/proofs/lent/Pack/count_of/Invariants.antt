@@ -1,3 +1,4 @@
+-- The records of the table before record n are counted, and are no more than the records.
 use Rattle.std.proofs.Common.{◌≡◌, ◌≤◌}
 use Rattle.schema.specs.Records.{is_of, count_below}
 use Rattle.schema.proofs.lent.Pack.count_of.Given as goal
