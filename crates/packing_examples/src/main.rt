@@ -27,7 +27,7 @@ const BATCH: &[u8] = b"ab\xC3\xA9";
 // `h`, and a byte that no UTF-8 has.
 const HOUSE: &[u8] = b"h\xFF";
 
-// Adds a refusal's number and the values after it.
+// Writes a refusal's number and the values after it.
 fn refused<W: Write>(out: &mut W, refusal: Refusal) -> io::Result<()> {
     let list = answers::numbers(refusal);
     write!(out, " refused")?;

@@ -31,7 +31,7 @@ fn answer_next<R: BufRead>(
     }
 }
 
-// Answers each case, to the end of the corpus or of a case that is cut off. Nothing says that the input ends, so the turns are counted.
+// Answers each case, to the end of the corpus or to a case that is cut off. Nothing says that the input ends, so the turns are counted.
 pub fn answer_all<R: BufRead, W: Write>(
     input: &mut R,
     pack: &mut [u8],

@@ -40,21 +40,19 @@ fn read_u32<R: Read>(input: &mut R) -> Result<u32, Stop> {
 }
 
 // Takes bytes that are not kept.
-fn pass_over<R: BufRead>(input: &mut R, len: usize) -> Result<(), Stop> {
+fn pass_over<R: Read>(input: &mut R, len: usize) -> Result<(), Stop> {
+    let mut block = [0u8; 4096];
     let mut left = len;
     while 0 < left {
-        let n = input.fill_buf()?.len().min(left);
-        if n == 0 {
-            return Err(Stop::CutOff);
-        }
-        input.consume(n);
+        let n = left.min(4096);
+        input.read_exact(&mut block[..n])?;
         left -= n;
     }
     Ok(())
 }
 
 // Takes `len` bytes, keeps as many as `part` has room for, and answers how many these are.
-fn take<R: BufRead>(input: &mut R, part: &mut [u8], len: u32) -> Result<usize, Stop>
+fn take<R: Read>(input: &mut R, part: &mut [u8], len: u32) -> Result<usize, Stop>
     ensures { IfOk result (λ n. n ≤ length part.new) }
 {
     let len = len as usize;
@@ -65,7 +63,7 @@ fn take<R: BufRead>(input: &mut R, part: &mut [u8], len: u32) -> Result<usize, S
 }
 
 // Takes the parts of a case whose first byte is `kind`.
-fn read_parts<R: BufRead>(
+fn read_parts<R: Read>(
     kind: u8,
     input: &mut R,
     pack: &mut [u8],

@@ -8,7 +8,7 @@ use std::io::Write;
 // Lines that are not written yet.
 pub type Lines = ArrayVec<u8, 8192>;
 
-// The most bytes that a line has.
+// Room for any line: the longest has 176 bytes.
 const LINE: usize = 192;
 
 // Writes the lines where there is no room for one more, and in any case where it is said.
