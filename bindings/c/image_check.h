@@ -20,9 +20,9 @@ extern "C" {
  *   numbers[0] is not 0: refused. It is the refusal's number, and the numbers that it carries follow. docs/REFUSALS.md lists them.
  * The program `replay` prints these numbers: `accepted` and those after the 0, or `refused` and all of them.
  *
- * Proved (crates/image_check): for any three strings of bytes, whatever their lengths and contents, the call ends, these are the numbers
- * and this the result, it reads no byte outside the three strings and writes nothing but the eight numbers. A pack or a text that is
- * too long is refused (1, 2) as any other fault is.
+ * Proved (crates/image_check, exported by crates/image_check_c): for any three strings of bytes, whatever their lengths and contents, the
+ * call ends, these are the numbers and this the result, it reads no byte outside the three strings and writes nothing but the eight
+ * numbers. A pack or a text that is too long is refused (1, 2) as any other fault is.
  *
  * Assumed of the host, and tested by nothing here:
  * - The program is for x86-64 Linux and calls by its C convention. The archive is position-independent and asks of the C library memcpy
