@@ -10,7 +10,7 @@ use std::io;
 // S with another enclave, reactor or scope, of which the first `len` bytes are lent.
 fn with_rows(
     rt: &HostRuntime,
-    name: &str,
+    name: &[u8],
     enclave: EnclaveImage,
     reactor: ReactorImage,
     scope: ScopeImage,
@@ -24,7 +24,7 @@ fn with_rows(
 
 fn with_enclave(
     rt: &HostRuntime,
-    name: &str,
+    name: &[u8],
     enclave: EnclaveImage,
     batch: &[u8],
 ) -> io::Result<()> {
@@ -39,7 +39,7 @@ fn with_enclave(
     )
 }
 
-fn with_reactor(rt: &HostRuntime, name: &str, reactor: ReactorImage) -> io::Result<()> {
+fn with_reactor(rt: &HostRuntime, name: &[u8], reactor: ReactorImage) -> io::Result<()> {
     with_rows(
         rt,
         name,
@@ -58,7 +58,7 @@ fn without_reactor(rt: &HostRuntime) -> io::Result<()> {
     put(&mut pack, 2, records::binding(rows::binding_s()));
     show_enclave(
         rt,
-        "S without its reactor, identity empty",
+        b"S without its reactor, identity empty",
         &pack,
         192,
         b"ab",
@@ -67,7 +67,7 @@ fn without_reactor(rt: &HostRuntime) -> io::Result<()> {
 
 fn two_scopes(
     rt: &HostRuntime,
-    name: &str,
+    name: &[u8],
     first: ScopeImage,
     second: ScopeImage,
 ) -> io::Result<()> {
@@ -77,7 +77,7 @@ fn two_scopes(
 }
 
 // Reactor 0 has the modes 0+1, and reactor 1 an empty span.
-fn two_spans(rt: &HostRuntime, name: &str, start: u64) -> io::Result<()> {
+fn two_spans(rt: &HostRuntime, name: &[u8], start: u64) -> io::Result<()> {
     let mut pack = [0u8; 2048];
     put(&mut pack, 0, records::enclave(rows::enclave_s()));
     put(&mut pack, 1, records::reactor(rows::reactor(0, 0, 1)));
@@ -92,7 +92,7 @@ fn two_spans(rt: &HostRuntime, name: &str, start: u64) -> io::Result<()> {
 
 fn with_action(
     rt: &HostRuntime,
-    name: &str,
+    name: &[u8],
     enclave: EnclaveImage,
     action: ActionImage,
 ) -> io::Result<()> {
@@ -121,7 +121,7 @@ fn shared_trigger(rt: &HostRuntime) -> io::Result<()> {
     put(&mut pack, 10, records::binding(rows::reaction_binding(4)));
     show_enclave(
         rt,
-        "an action and a port with triggers 0+1",
+        b"an action and a port with triggers 0+1",
         &pack,
         704,
         b"abcde",
@@ -131,11 +131,11 @@ fn shared_trigger(rt: &HostRuntime) -> io::Result<()> {
 fn uncovered_trigger(rt: &HostRuntime) -> io::Result<()> {
     let mut pack = [0u8; 2048];
     parts::put_uncovered_trigger(&mut pack, 0);
-    show_enclave(rt, "an entry that no range covers", &pack, 320, b"ab")
+    show_enclave(rt, b"an entry that no range covers", &pack, 320, b"ab")
 }
 
 // One half of the boundary `d`.
-fn one_half(rt: &HostRuntime, name: &str, direction: RouteDirection) -> io::Result<()> {
+fn one_half(rt: &HostRuntime, name: &[u8], direction: RouteDirection) -> io::Result<()> {
     let mut pack = [0u8; 2048];
     parts::put_half(&mut pack, 0, rows::enclave_s(), rows::route(3, direction));
     show_enclave(rt, name, &pack, 448, b"abcd")
@@ -144,7 +144,7 @@ fn one_half(rt: &HostRuntime, name: &str, direction: RouteDirection) -> io::Resu
 // Two halves of the boundary `d`.
 fn two_halves(
     rt: &HostRuntime,
-    name: &str,
+    name: &[u8],
     first: RouteDirection,
     second: RouteDirection,
 ) -> io::Result<()> {
@@ -160,12 +160,12 @@ fn two_halves(
 }
 
 fn slots_and_parents(rt: &HostRuntime) -> io::Result<()> {
-    with_enclave(rt, "S", rows::enclave_s(), b"ab")?;
-    with_enclave(rt, "S, state slots 0", rows::enclave(0, 1, 0, 0), b"ab")?;
+    with_enclave(rt, b"S", rows::enclave_s(), b"ab")?;
+    with_enclave(rt, b"S, state slots 0", rows::enclave(0, 1, 0, 0), b"ab")?;
     without_reactor(rt)?;
     with_rows(
         rt,
-        "S, scope 0 its own parent",
+        b"S, scope 0 its own parent",
         rows::enclave_s(),
         ReactorImage::empty(),
         rows::scope_under(0),
@@ -174,39 +174,39 @@ fn slots_and_parents(rt: &HostRuntime) -> io::Result<()> {
     )?;
     two_scopes(
         rt,
-        "S and scope 1 under scope 0",
+        b"S and scope 1 under scope 0",
         ScopeImage::empty(),
         rows::scope_under(0),
     )?;
     two_scopes(
         rt,
-        "each the other's parent",
+        b"each the other's parent",
         rows::scope_under(1),
         rows::scope_under(0),
     )
 }
 
 fn spans_and_banks(rt: &HostRuntime) -> io::Result<()> {
-    two_spans(rt, "modes 0+1, then 0+0", 0)?;
-    two_spans(rt, "modes 0+1, then 1+0", 1)?;
-    with_reactor(rt, "bank index 0 of 0", rows::bank_reactor(0, 0))?;
-    with_reactor(rt, "bank index 3 of 3", rows::bank_reactor(3, 3))?;
-    with_reactor(rt, "bank index 2 of 3", rows::bank_reactor(2, 3))
+    two_spans(rt, b"modes 0+1, then 0+0", 0)?;
+    two_spans(rt, b"modes 0+1, then 1+0", 1)?;
+    with_reactor(rt, b"bank index 0 of 0", rows::bank_reactor(0, 0))?;
+    with_reactor(rt, b"bank index 3 of 3", rows::bank_reactor(3, 3))?;
+    with_reactor(rt, b"bank index 2 of 3", rows::bank_reactor(2, 3))
 }
 
 // The identity stands behind S's own text.
 fn identities(rt: &HostRuntime) -> io::Result<()> {
-    with_enclave(rt, "identity ` a`", rows::enclave(2, 2, 1, 0), b"ab a")?;
+    with_enclave(rt, b"identity ` a`", rows::enclave(2, 2, 1, 0), b"ab a")?;
     with_enclave(
         rt,
-        "identity U+00A0",
+        b"identity U+00A0",
         rows::enclave(2, 2, 1, 0),
         b"ab\xC2\xA0",
     )?;
-    with_enclave(rt, "identity `a b`", rows::enclave(2, 3, 1, 0), b"aba b")?;
+    with_enclave(rt, b"identity `a b`", rows::enclave(2, 3, 1, 0), b"aba b")?;
     with_enclave(
         rt,
-        "identity U+200B",
+        b"identity U+200B",
         rows::enclave(2, 3, 1, 0),
         b"ab\xE2\x80\x8B",
     )
@@ -215,17 +215,17 @@ fn identities(rt: &HostRuntime) -> io::Result<()> {
 fn actions(rt: &HostRuntime) -> io::Result<()> {
     let one = rows::enclave_one_action();
     let none = rows::enclave_s();
-    with_action(rt, "a timer with a binding", one, rows::bound_timer())?;
-    with_action(rt, "a standard action without", one, ActionImage::empty())?;
+    with_action(rt, b"a timer with a binding", one, rows::bound_timer())?;
+    with_action(rt, b"a standard action without", one, ActionImage::empty())?;
     with_action(
         rt,
-        "a timer with a binding, action slots 0",
+        b"a timer with a binding, action slots 0",
         none,
         rows::bound_timer(),
     )?;
     with_action(
         rt,
-        "a standard action without, action slots 0",
+        b"a standard action without, action slots 0",
         none,
         ActionImage::empty(),
     )?;
@@ -236,11 +236,11 @@ fn lengths(rt: &HostRuntime) -> io::Result<()> {
     let enclave = rows::enclave_s();
     let reactor = ReactorImage::empty();
     let scope = ScopeImage::empty();
-    with_rows(rt, "63 bytes", enclave, reactor, scope, 63, b"ab")?;
-    with_rows(rt, "65 bytes", enclave, reactor, scope, 65, b"ab")?;
+    with_rows(rt, b"63 bytes", enclave, reactor, scope, 63, b"ab")?;
+    with_rows(rt, b"65 bytes", enclave, reactor, scope, 65, b"ab")?;
     with_enclave(
         rt,
-        "identity of length 0 at the text's end",
+        b"identity of length 0 at the text's end",
         rows::enclave(2, 0, 1, 0),
         b"ab",
     )
@@ -250,13 +250,13 @@ fn misreadings(rt: &HostRuntime) -> io::Result<()> {
     uncovered_trigger(rt)?;
     two_halves(
         rt,
-        "equal boundaries, inbound first",
+        b"equal boundaries, inbound first",
         RouteDirection::Inbound,
         RouteDirection::Outbound,
     )?;
     two_halves(
         rt,
-        "equal boundaries, outbound first",
+        b"equal boundaries, outbound first",
         RouteDirection::Outbound,
         RouteDirection::Inbound,
     )
@@ -267,8 +267,8 @@ pub fn cases(rt: &HostRuntime) -> io::Result<()> {
     spans_and_banks(rt)?;
     identities(rt)?;
     actions(rt)?;
-    one_half(rt, "a lone route half, inbound", RouteDirection::Inbound)?;
-    one_half(rt, "a lone route half, outbound", RouteDirection::Outbound)?;
+    one_half(rt, b"a lone route half, inbound", RouteDirection::Inbound)?;
+    one_half(rt, b"a lone route half, outbound", RouteDirection::Outbound)?;
     lengths(rt)?;
     misreadings(rt)
 }

@@ -7,7 +7,7 @@ use schema::rows::{EnclaveImage, ReactorImage, RouteImage, ScopeImage};
 use std::io;
 
 // S with another enclave, in a line `f` with the span 0+len.
-fn one_enclave(rt: &HostRuntime, name: &str, enclave: EnclaveImage, len: u64) -> io::Result<()> {
+fn one_enclave(rt: &HostRuntime, name: &[u8], enclave: EnclaveImage, len: u64) -> io::Result<()> {
     let mut pack = [0u8; 2048];
     put(&mut pack, 0, records::federate(rows::federate(2, 0, len)));
     parts::put_s(
@@ -23,7 +23,7 @@ fn one_enclave(rt: &HostRuntime, name: &str, enclave: EnclaveImage, len: u64) ->
 fn no_enclave(rt: &HostRuntime) -> io::Result<()> {
     let mut pack = [0u8; 2048];
     put(&mut pack, 0, records::federate(rows::federate(2, 0, 0)));
-    show_federate(rt, "no station in a line, span length 0", &pack, 1, b"abf")
+    show_federate(rt, b"no station in a line, span length 0", &pack, 1, b"abf")
 }
 
 // S twice, each time with scope 1 under scope 0.
@@ -44,13 +44,19 @@ fn link_each(rt: &HostRuntime) -> io::Result<()> {
         ScopeImage::empty(),
         rows::scope_under(0),
     );
-    show_federate(rt, "two stations in a line, a link each", &pack, 11, b"abf")
+    show_federate(
+        rt,
+        b"two stations in a line, a link each",
+        &pack,
+        11,
+        b"abf",
+    )
 }
 
 // S twice with other enclaves, in a line with the span start+2. ` a` stands behind the line's own text.
 fn two_enclaves(
     rt: &HostRuntime,
-    name: &str,
+    name: &[u8],
     first: EnclaveImage,
     second: EnclaveImage,
     start: u64,
@@ -70,7 +76,7 @@ fn uncovered_trigger(rt: &HostRuntime) -> io::Result<()> {
     parts::put_uncovered_trigger(&mut pack, 1);
     show_federate(
         rt,
-        "an entry that no range covers, in a line",
+        b"an entry that no range covers, in a line",
         &pack,
         6,
         b"abf",
@@ -79,7 +85,7 @@ fn uncovered_trigger(rt: &HostRuntime) -> io::Result<()> {
 
 // Lines with routes have the text `abcddf`: the boundary `d` is at 3 and at 4.
 
-fn one_half(rt: &HostRuntime, name: &str, direction: RouteDirection) -> io::Result<()> {
+fn one_half(rt: &HostRuntime, name: &[u8], direction: RouteDirection) -> io::Result<()> {
     let mut pack = [0u8; 2048];
     put(&mut pack, 0, records::federate(rows::federate(5, 0, 1)));
     parts::put_half(&mut pack, 1, rows::enclave_s(), rows::route(3, direction));
@@ -89,7 +95,7 @@ fn one_half(rt: &HostRuntime, name: &str, direction: RouteDirection) -> io::Resu
 // Two halves in one station.
 fn halves_together(
     rt: &HostRuntime,
-    name: &str,
+    name: &[u8],
     first: RouteDirection,
     second: RouteDirection,
 ) -> io::Result<()> {
@@ -108,7 +114,7 @@ fn halves_together(
 // A half in each of two stations.
 fn halves_apart(
     rt: &HostRuntime,
-    name: &str,
+    name: &[u8],
     first: RouteImage,
     second: RouteImage,
 ) -> io::Result<()> {
@@ -130,7 +136,7 @@ fn both_twice(rt: &HostRuntime) -> io::Result<()> {
     parts::put_halves(&mut pack, 9, rows::enclave(1, 1, 1, 0), inbound, outbound);
     show_federate(
         rt,
-        "both halves twice, in two stations",
+        b"both halves twice, in two stations",
         &pack,
         17,
         b"abcddf",
@@ -149,7 +155,7 @@ fn outbound_at_first(rt: &HostRuntime) -> io::Result<()> {
     parts::put_half(&mut pack, 16, rows::enclave(2, 1, 1, 0), inbound);
     show_federate(
         rt,
-        "both halves twice, in three stations, outbound first",
+        b"both halves twice, in three stations, outbound first",
         &pack,
         23,
         b"abcddf",
@@ -157,16 +163,16 @@ fn outbound_at_first(rt: &HostRuntime) -> io::Result<()> {
 }
 
 fn counts(rt: &HostRuntime) -> io::Result<()> {
-    one_enclave(rt, "S in a line", rows::enclave_s(), 1)?;
+    one_enclave(rt, b"S in a line", rows::enclave_s(), 1)?;
     one_enclave(
         rt,
-        "S in a line, state slots 0",
+        b"S in a line, state slots 0",
         rows::enclave(0, 1, 0, 0),
         1,
     )?;
     one_enclave(
         rt,
-        "S in a line whose span length is 2",
+        b"S in a line whose span length is 2",
         rows::enclave_s(),
         2,
     )?;
@@ -174,12 +180,12 @@ fn counts(rt: &HostRuntime) -> io::Result<()> {
     link_each(rt)?;
     one_half(
         rt,
-        "a lone route half in a line, inbound",
+        b"a lone route half in a line, inbound",
         RouteDirection::Inbound,
     )?;
     one_half(
         rt,
-        "a lone route half in a line, outbound",
+        b"a lone route half in a line, outbound",
         RouteDirection::Outbound,
     )
 }
@@ -190,10 +196,10 @@ fn identities(rt: &HostRuntime) -> io::Result<()> {
     let b = rows::enclave(1, 1, 1, 0);
     let bad = rows::enclave(3, 2, 1, 0);
     let again = rows::enclave(4, 1, 1, 0);
-    two_enclaves(rt, "second identity ` a`, span 0+2", a, bad, 0)?;
-    two_enclaves(rt, "second identity ` a`, span 5+2", a, bad, 5)?;
-    two_enclaves(rt, "second identity as the first, span 5+2", a, again, 5)?;
-    two_enclaves(rt, "second identity below the first, span 5+2", b, a, 5)
+    two_enclaves(rt, b"second identity ` a`, span 0+2", a, bad, 0)?;
+    two_enclaves(rt, b"second identity ` a`, span 5+2", a, bad, 5)?;
+    two_enclaves(rt, b"second identity as the first, span 5+2", a, again, 5)?;
+    two_enclaves(rt, b"second identity below the first, span 5+2", b, a, 5)
 }
 
 fn boundaries(rt: &HostRuntime) -> io::Result<()> {
@@ -201,37 +207,37 @@ fn boundaries(rt: &HostRuntime) -> io::Result<()> {
     let outbound = RouteDirection::Outbound;
     halves_together(
         rt,
-        "both halves in one station, inbound first",
+        b"both halves in one station, inbound first",
         inbound,
         outbound,
     )?;
     halves_together(
         rt,
-        "both halves in one station, outbound first",
+        b"both halves in one station, outbound first",
         outbound,
         inbound,
     )?;
     halves_apart(
         rt,
-        "halves in two stations, inbound first",
+        b"halves in two stations, inbound first",
         rows::route(3, inbound),
         rows::route(4, outbound),
     )?;
     halves_apart(
         rt,
-        "halves in two stations, outbound first",
+        b"halves in two stations, outbound first",
         rows::route(3, outbound),
         rows::route(4, inbound),
     )?;
     halves_apart(
         rt,
-        "halves with two delays",
+        b"halves with two delays",
         rows::route(3, outbound),
         rows::timed_route(4, inbound, TimingDomain::Logical, 1),
     )?;
     halves_apart(
         rt,
-        "halves with two domains and two delays",
+        b"halves with two domains and two delays",
         rows::route(3, outbound),
         rows::timed_route(4, inbound, TimingDomain::Physical, 1),
     )
@@ -242,13 +248,13 @@ fn duplicates(rt: &HostRuntime) -> io::Result<()> {
     let outbound = RouteDirection::Outbound;
     halves_apart(
         rt,
-        "two inbound halves",
+        b"two inbound halves",
         rows::route(3, inbound),
         rows::route(4, inbound),
     )?;
     halves_apart(
         rt,
-        "two outbound halves",
+        b"two outbound halves",
         rows::route(3, outbound),
         rows::route(4, outbound),
     )?;

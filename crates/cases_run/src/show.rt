@@ -9,6 +9,7 @@ use enclave::check::check_enclave;
 use federate::FederateAnswer;
 use federate::check::check_federate;
 use std::io;
+use std::io::Write;
 
 // Room for 32 records.
 pub type Pack = [u8; 2048];
@@ -18,6 +19,11 @@ pub fn put(pack: &mut Pack, n: usize, bytes: Record)
     requires { n < 32 }
 {
     records::put(pack, n, bytes);
+}
+
+fn show_name(rt: &HostRuntime, name: &[u8]) -> io::Result<()> {
+    io::writer(rt).write_all(name)?;
+    print!(rt; ": ")
 }
 
 // The refusal's number and the values after it.
@@ -33,7 +39,7 @@ fn show_refusal(rt: &HostRuntime, refusal: Refusal) -> io::Result<()> {
 // The first `len` bytes of a pack, as a station.
 pub fn show_enclave(
     rt: &HostRuntime,
-    name: &str,
+    name: &[u8],
     pack: &Pack,
     len: usize,
     batch: &[u8],
@@ -41,7 +47,7 @@ pub fn show_enclave(
     if pack.len() < len {
         return Ok(());
     }
-    print!(rt; "{name}: ")?;
+    show_name(rt, name)?;
     match check_enclave(&pack[..len], batch, b"") {
         EnclaveAnswer::Accepted { links } => println!(rt; "accepted {links}"),
         EnclaveAnswer::Refused(refusal) => show_refusal(rt, refusal),
@@ -51,14 +57,14 @@ pub fn show_enclave(
 // The first records of a pack, as a line.
 pub fn show_federate(
     rt: &HostRuntime,
-    name: &str,
+    name: &[u8],
     pack: &Pack,
     records: usize,
     batch: &[u8],
 ) -> io::Result<()>
     requires { records ≤ 32 }
 {
-    print!(rt; "{name}: ")?;
+    show_name(rt, name)?;
     match check_federate(&pack[..records * 64], batch, b"") {
         FederateAnswer::Accepted { enclaves, links } => {
             println!(rt; "accepted {enclaves} {links}")
