@@ -42,7 +42,7 @@ fn words_line(word: &str, numbers: &[u64]) -> Line
     line
 }
 
-// The same with the numbers of a list.
+// A word with the numbers of a list, eight at most.
 fn list_line(word: &str, list: NumberList) -> Line
     requires { length word.now ≤ 8 }
     ensures { result.bytes ≡ line word.now (take list.len list.values) }
