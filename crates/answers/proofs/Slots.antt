@@ -3,12 +3,11 @@ use mathlib.Core.Bool.{Bool, true, false, ◌&&◌, and_assoc, true≢false}
 use mathlib.Core.Path.{◌≡◌, refl, ◌∙◌, ap, sym}
 use mathlib.Core.List.{List, [], ◌∷◌, ◌++◌}
 use Rattle.identity.proofs.Tests.{cases}
-use Rattle.answers.specs.declared.Outcome.TheVariants.{Passed}
-use Rattle.answers.specs.Checks.{Check, need, first}
+use Rattle.answers.specs.Checks.{Check, need, first, Outcome, passed}
 use Rattle.answers.specs.Slots.{is_slot, without_slots, slots_hold}
 
 -- what passes, passes without the slot checks, and its slot checks hold
-pub passes-without : (cs : List Check) → first cs ≡ Passed → (first (without_slots cs) ≡ Passed) × (slots_hold cs ≡ true)
+pub passes-without : (cs : List Check) → first cs ≡ passed → (first (without_slots cs) ≡ passed) × (slots_hold cs ≡ true)
 unfolding first without_slots slots_hold
 passes-without [] e = (refl, refl)
 passes-without (need true r ∷ cs) e =
@@ -17,7 +16,7 @@ passes-without (need true r ∷ cs) e =
 passes-without (need false r ∷ cs) e = let z : ◌≡◌ {A = Bool} true false = cc in absurd (true≢false z)
 
 -- what passes without the slot checks passes where they hold
-pub passes-with : (cs : List Check) → first (without_slots cs) ≡ Passed → slots_hold cs ≡ true → first cs ≡ Passed
+pub passes-with : (cs : List Check) → first (without_slots cs) ≡ passed → slots_hold cs ≡ true → first cs ≡ passed
 unfolding first without_slots slots_hold
 passes-with [] e h = refl
 passes-with (need true r ∷ cs) e h =

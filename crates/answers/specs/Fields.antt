@@ -1,127 +1,62 @@
 -- The field numbers and the identity kinds of document 01, by the Rust's names. Assumes nothing.
 use Rattle.std.specs.Prelude.{ℕ}
+use Rattle.identity.specs.declared.IdentityPlace.{IdentityPlace}
+use Rattle.answers.specs.declared.field.Field.{Field}
+use Rattle.answers.specs.declared.field.Field.TheVariants as field
+use Rattle.answers.specs.declared.field.RowField.{RowField}
+use Rattle.answers.specs.declared.id.IdKind.{IdKind}
+use Rattle.answers.specs.declared.id.IdKind.TheVariants as kind
+use Rattle.answers.specs.declared.id.StableId.{StableId}
 
-abbrev pub root_reactor : ℕ
-root_reactor = 1
+abbrev pub field_number : Field → ℕ
+field_number field.RootReactor = 1
+field_number field.StateBinding = 2
+field_number field.RootScope = 3
+field_number field.Modes = 4
+field_number field.InitialMode = 5
+field_number field.Scope = 6
+field_number field.Binding = 7
+field_number field.Triggers = 8
+field_number field.Reactor = 9
+field_number field.ScopeReactor = 10
+field_number field.ModeEffectTarget = 11
+field_number field.ModeEffectTargetReactor = 12
+field_number field.UsePorts = 13
+field_number field.EffectPorts = 14
+field_number field.Actions = 15
+field_number field.EnabledModes = 16
+field_number field.ScopeMode = 17
+field_number field.ReactorModes = 18
+field_number field.Parent = 19
+field_number field.Mode = 20
+field_number field.Descendants = 21
+field_number field.LogicalActions = 22
+field_number field.TimerStartups = 23
+field_number field.ResetReactions = 24
+field_number field.StartupReactions = 25
+field_number field.ShutdownReactions = 26
+field_number field.Reaction = 27
+field_number field.DependencyLevel = 28
+field_number field.Action = 29
+field_number field.Port = 30
+field_number field.EnabledModesReactor = 31
+field_number field.LocalPort = 32
+field_number field.Enclaves = 33
+field_number field.TimingDomain = 34
+field_number field.DelayNanos = 35
 
-abbrev pub state_binding : ℕ
-state_binding = 2
+abbrev pub kind_number : IdKind → ℕ
+kind_number kind.Federate = 1
+kind_number kind.Target = 2
+kind_number kind.Runtime = 3
+kind_number kind.Enclave = 4
+kind_number kind.Boundary = 5
+kind_number kind.Binding = 6
 
-abbrev pub root_scope : ℕ
-root_scope = 3
+-- the field f of row i of table t
+abbrev pub row_field : ℕ → ℕ → Field → RowField
+row_field t i f = record { table = t; index = i; field = f }
 
-abbrev pub modes : ℕ
-modes = 4
-
-abbrev pub initial_mode : ℕ
-initial_mode = 5
-
-abbrev pub scope : ℕ
-scope = 6
-
-abbrev pub binding : ℕ
-binding = 7
-
-abbrev pub triggers : ℕ
-triggers = 8
-
-abbrev pub reactor : ℕ
-reactor = 9
-
-abbrev pub scope_reactor : ℕ
-scope_reactor = 10
-
-abbrev pub mode_effect_target : ℕ
-mode_effect_target = 11
-
-abbrev pub mode_effect_target_reactor : ℕ
-mode_effect_target_reactor = 12
-
-abbrev pub use_ports : ℕ
-use_ports = 13
-
-abbrev pub effect_ports : ℕ
-effect_ports = 14
-
-abbrev pub actions : ℕ
-actions = 15
-
-abbrev pub enabled_modes : ℕ
-enabled_modes = 16
-
-abbrev pub scope_mode : ℕ
-scope_mode = 17
-
-abbrev pub reactor_modes : ℕ
-reactor_modes = 18
-
-abbrev pub parent : ℕ
-parent = 19
-
-abbrev pub mode : ℕ
-mode = 20
-
-abbrev pub descendants : ℕ
-descendants = 21
-
-abbrev pub logical_actions : ℕ
-logical_actions = 22
-
-abbrev pub timer_startups : ℕ
-timer_startups = 23
-
-abbrev pub reset_reactions : ℕ
-reset_reactions = 24
-
-abbrev pub startup_reactions : ℕ
-startup_reactions = 25
-
-abbrev pub shutdown_reactions : ℕ
-shutdown_reactions = 26
-
-abbrev pub reaction : ℕ
-reaction = 27
-
-abbrev pub dependency_level : ℕ
-dependency_level = 28
-
-abbrev pub action : ℕ
-action = 29
-
-abbrev pub port : ℕ
-port = 30
-
-abbrev pub enabled_modes_reactor : ℕ
-enabled_modes_reactor = 31
-
-abbrev pub local_port : ℕ
-local_port = 32
-
-abbrev pub enclaves : ℕ
-enclaves = 33
-
-abbrev pub timing_domain : ℕ
-timing_domain = 34
-
-abbrev pub delay_nanos : ℕ
-delay_nanos = 35
-
--- identity kinds
-
-abbrev pub kind_federate : ℕ
-kind_federate = 1
-
-abbrev pub kind_target : ℕ
-kind_target = 2
-
-abbrev pub kind_runtime : ℕ
-kind_runtime = 3
-
-abbrev pub kind_enclave : ℕ
-kind_enclave = 4
-
-abbrev pub kind_boundary : ℕ
-kind_boundary = 5
-
-abbrev pub kind_binding : ℕ
-kind_binding = 6
+-- the identity of row i, of the given kind
+abbrev pub stable_id : IdKind → ℕ → IdentityPlace → StableId
+stable_id kind i id = record { kind = kind; index = i; id = id }

@@ -1,5 +1,4 @@
 pub mod Fields
 pub mod Numbers
-pub mod Listed
 pub mod Checks
 pub mod Slots

@@ -1,15 +1,13 @@
 -- Slot checks: the ones that give refusal 23 (document 01, "Slots"). Assumes nothing.
-use Rattle.std.specs.Prelude.{ℕ, Bool, true, false, ◌&&◌, cond, ◌≡◌, List, [], ◌∷◌, eqb}
+use Rattle.std.specs.Prelude.{ℕ, Bool, true, false, ◌&&◌, cond, ◌≡◌, List, [], ◌∷◌, eqb, Err}
 use Rattle.answers.specs.declared.Refusal.{Refusal}
 use Rattle.answers.specs.declared.Refusal.TheVariants.{StorageBoundExceeded}
-use Rattle.answers.specs.declared.Outcome.{Outcome}
-use Rattle.answers.specs.declared.Outcome.TheVariants.{Refused}
 use Rattle.answers.specs.Numbers.{numbers}
-use Rattle.answers.specs.Checks.{Check, need}
+use Rattle.answers.specs.Checks.{Check, need, Outcome}
 
 -- o is a slot refusal
 abbrev pub SlotRefusal : Outcome → Type 0
-SlotRefusal o = (t : ℕ) × (i : ℕ) × (s : ℕ) × (b : ℕ) × (o ≡ Refused (StorageBoundExceeded t i s b))
+SlotRefusal o = (t : ℕ) × (i : ℕ) × (s : ℕ) × (b : ℕ) × (o ≡ Err (StorageBoundExceeded t i s b))
 
 abbrev head_is : ℕ → List ℕ → Bool
 head_is n [] = false

@@ -1,21 +1,9 @@
 -- What a row's bits, kinds and optional fields are in its record (document 01, "The pack"). Assumes nothing.
 use Rattle.std.specs.Prelude.{ℕ, ◌+◌, Bool, true, false}
-use Rattle.schema.specs.declared.index.MaybeMode.{MaybeMode}
-use Rattle.schema.specs.declared.index.MaybeMode.TheVariants.{NoMode, Mode}
-use Rattle.schema.specs.declared.index.MaybeScope.{MaybeScope}
-use Rattle.schema.specs.declared.index.MaybeScope.TheVariants.{NoScope, Scope}
-use Rattle.schema.specs.declared.index.MaybeBinding.{MaybeBinding}
-use Rattle.schema.specs.declared.index.MaybeBinding.TheVariants.{NoBinding, Binding}
-use Rattle.schema.specs.declared.index.MaybeBank.{MaybeBank}
-use Rattle.schema.specs.declared.index.MaybeBank.TheVariants.{NoBank, Bank}
 use Rattle.schema.specs.declared.index.Transition.{Transition}
 use Rattle.schema.specs.declared.index.Transition.TheVariants.{Reset, History}
-use Rattle.schema.specs.declared.index.MaybeModeEffect.{MaybeModeEffect}
-use Rattle.schema.specs.declared.index.MaybeModeEffect.TheVariants.{NoEffect, Effect}
 use Rattle.schema.specs.declared.index.TimingDomain.{TimingDomain}
 use Rattle.schema.specs.declared.index.TimingDomain.TheVariants.{Logical, Physical}
-use Rattle.schema.specs.declared.index.MaybePeriod.{MaybePeriod}
-use Rattle.schema.specs.declared.index.MaybePeriod.TheVariants.{NoPeriod, Period}
 use Rattle.schema.specs.declared.index.ActionTiming.{ActionTiming}
 use Rattle.schema.specs.declared.index.ActionTiming.TheVariants.{Standard, Timer, Shutdown}
 use Rattle.schema.specs.declared.index.RouteDirection.{RouteDirection}

@@ -13,7 +13,7 @@ use Rattle.schema.specs.declared.rows.ModeImage.{ModeImage}
 use Rattle.schema.specs.declared.rows.ScopeImage.{ScopeImage}
 use Rattle.schema.specs.declared.rows.RouteImage.{RouteImage}
 use Rattle.schema.specs.declared.rows.RequiredBindingImage.{RequiredBindingImage}
-use Rattle.schema.specs.declared.lists.LevelReactionImage.{LevelReactionImage}
+use Rattle.schema.specs.declared.entries.LevelReactionImage.{LevelReactionImage}
 use Rattle.cases.specs.declared.records.Field.{Field}
 use Rattle.cases.specs.declared.records.Field.TheVariants as field
 use Rattle.cases.specs.Packs.{bytes, rec}

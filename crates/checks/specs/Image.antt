@@ -1,13 +1,11 @@
 -- The image of an enclave: what its check looks at, and no more. Assumes nothing.
-use Rattle.std.specs.Prelude.{ℕ, ◌+◌, Bool, true, false, List}
+use Rattle.std.specs.Prelude.{ℕ, ◌+◌, Bool, true, false, List, Option, option_map}
 use Rattle.identity.specs.declared.IdentityPlace.{IdentityPlace}
 use Rattle.identity.specs.Text.{identity_text}
 use Rattle.range.specs.declared.SliceRange.{SliceRange}
-use Rattle.schema.specs.declared.index.MaybeMode.{MaybeMode}
-use Rattle.schema.specs.declared.index.MaybeMode.TheVariants.{NoMode, Mode}
-use Rattle.schema.specs.declared.index.MaybeBinding.{MaybeBinding}
-use Rattle.schema.specs.declared.index.MaybeModeEffect.{MaybeModeEffect}
-use Rattle.schema.specs.declared.index.MaybeModeEffect.TheVariants.{NoEffect, Effect}
+use Rattle.schema.specs.declared.index.ModeIndex.{ModeIndex}
+use Rattle.schema.specs.declared.index.BindingSlotIndex.{BindingSlotIndex}
+use Rattle.schema.specs.declared.index.ModeEffect.{ModeEffect}
 use Rattle.schema.specs.declared.index.ActionTiming.{ActionTiming}
 use Rattle.schema.specs.declared.index.ActionTiming.TheVariants.{Standard, Timer, Shutdown}
 use Rattle.schema.specs.declared.index.RouteDirection.{RouteDirection}
@@ -19,8 +17,8 @@ use Rattle.schema.specs.declared.rows.ModeImage.{ModeImage}
 use Rattle.schema.specs.declared.rows.ScopeImage.{ScopeImage}
 use Rattle.schema.specs.declared.rows.RouteImage.{RouteImage}
 use Rattle.schema.specs.declared.rows.RequiredBindingImage.{RequiredBindingImage}
-use Rattle.schema.specs.declared.lists.LevelReactionImage.{LevelReactionImage}
-use Rattle.schema.specs.declared.lists.LifecycleReactionImage.{LifecycleReactionImage}
+use Rattle.schema.specs.declared.entries.LevelReactionImage.{LevelReactionImage}
+use Rattle.schema.specs.declared.entries.LifecycleReactionImage.{LifecycleReactionImage}
 use Rattle.schema.specs.declared.lent.Enclave.{Enclave}
 use Rattle.schema.specs.Tables.{start_of, rows_of}
 use Rattle.schema.specs.Rows.{enclave_at, reactor_at, action_at, port_at, reaction_at, mode_at, scope_at, index_at, level_at, startup_at, lifecycle_at, route_at, binding_at}
@@ -30,7 +28,7 @@ pub record ActionPart : Type 0 where
   pub scope : ℕ
   pub slot : ℕ
   pub standard : Bool
-  pub binding : MaybeBinding
+  pub binding : Option BindingSlotIndex
   pub triggers : SliceRange
 
 abbrev pub is_standard : ActionTiming → Bool
@@ -58,11 +56,10 @@ pub record ReactionPart : Type 0 where
   pub effects : SliceRange
   pub actions : SliceRange
   pub enabled : SliceRange
-  pub target : MaybeMode
+  pub target : Option ModeIndex
 
-abbrev pub effect_target : MaybeModeEffect → MaybeMode
-effect_target NoEffect = NoMode
-effect_target (Effect e) = Mode e.target
+abbrev pub effect_target : Option ModeEffect → Option ModeIndex
+effect_target e = option_map (λ x. x.target) e
 
 abbrev pub reaction_part : ReactionImage → ReactionPart
 reaction_part r =
@@ -152,4 +149,4 @@ image p batch house s n =
 
 -- the image of an enclave as it is lent
 abbrev pub image_of : Enclave → Image
-image_of e = image e.pack.bytes.now e.batch.now e.house.now e.starts.now e.own
+image_of e = image e.pack.bytes.now e.texts.batch.now e.texts.house.now e.starts.now.firsts e.own

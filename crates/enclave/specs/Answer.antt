@@ -1,9 +1,7 @@
 -- The answer of the enclave check: document 01's number and values, 0 and the link count for acceptance. Assumes nothing.
-use Rattle.std.specs.Prelude.{ℕ, List, [], ◌∷◌}
-use Rattle.answers.specs.declared.Outcome.{Outcome}
-use Rattle.answers.specs.declared.Outcome.TheVariants.{Passed, Refused}
+use Rattle.std.specs.Prelude.{ℕ, List, [], ◌∷◌, Ok, Err}
 use Rattle.answers.specs.Numbers.{numbers}
-use Rattle.answers.specs.Checks.{first}
+use Rattle.answers.specs.Checks.{first, Outcome, passed}
 use Rattle.packing.specs.declared.PackKind.TheVariants.{Enclave}
 use Rattle.packing.specs.Packing.{packing_checks}
 use Rattle.packing.specs.Starts.{table_starts}
@@ -22,8 +20,8 @@ answer_numbers (answer.Refused r) = numbers r
 
 -- a refusal, passed up
 abbrev pub outcome_answer : Outcome → EnclaveAnswer
-outcome_answer Passed = answer.Accepted 0
-outcome_answer (Refused r) = answer.Refused r
+outcome_answer (Ok u) = answer.Accepted 0
+outcome_answer (Err r) = answer.Refused r
 
 abbrev pub parents_outcome : Parents → EnclaveAnswer
 parents_outcome (parents.Links n) = answer.Accepted n
@@ -31,16 +29,16 @@ parents_outcome (parents.Refused r) = answer.Refused r
 
 -- an image's checks and its link count as an answer
 abbrev pub answer_of : Outcome → ℕ → EnclaveAnswer
-answer_of Passed n = answer.Accepted n
-answer_of (Refused r) n = answer.Refused r
+answer_of (Ok u) n = answer.Accepted n
+answer_of (Err r) n = answer.Refused r
 
 unfoldable pub image_result : Image → EnclaveAnswer
 image_result m = answer_of (first (enclave_checks m)) (links m)
 
 -- a refusal, or what follows a pass
 abbrev pub unless : Outcome → List ℕ → List ℕ
-unless Passed ns = ns
-unless (Refused r) ns = numbers r
+unless (Ok u) ns = ns
+unless (Err r) ns = numbers r
 
 -- the answer for an image
 unfoldable pub image_answer : Image → List ℕ

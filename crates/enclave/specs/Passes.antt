@@ -1,6 +1,7 @@
 -- The passes of `validate_enclave_const` in their order, each with its items' checks. Assumes nothing.
 use Rattle.std.specs.Prelude.{ℕ, ◌+◌, cond, List, [], ◌∷◌, ◌++◌, ltb, eqb}
-use Rattle.answers.specs.Fields as field
+use Rattle.answers.specs.declared.field.Field.TheVariants as field
+use Rattle.answers.specs.declared.id.IdKind.TheVariants as kind
 use Rattle.answers.specs.Checks.{Check, run}
 use Rattle.checks.specs.Image.{Image}
 use Rattle.checks.specs.Refs.{length_check, ref_to}
@@ -35,10 +36,10 @@ unfoldable pub length_checks : Image → ℕ → List Check
 length_checks m i = length_check m.rows (length_table i) ∷ []
 
 abbrev pub root_checks : Image → ℕ → List Check
-root_checks m i = ref_to m.rows 1 0 field.root_reactor 2 0 ∷ []
+root_checks m i = ref_to m.rows 1 0 field.RootReactor 2 0 ∷ []
 
 abbrev pub enclave_id_checks : Image → ℕ → List Check
-enclave_id_checks m i = id_check m.text field.kind_enclave 0 m.enclave_id ∷ []
+enclave_id_checks m i = id_check m.text kind.Enclave 0 m.enclave_id ∷ []
 
 -- table lengths, root reactor, identity
 unfoldable pub head_passes : List Pass
@@ -67,18 +68,18 @@ unfoldable pub reaction_list_passes : List Pass
 reaction_list_passes =
     over 3 action_trigger_checks
     ∷ over 4 port_trigger_checks
-    ∷ over 9 (index_checks 9 field.port 4)
-    ∷ over 10 (index_checks 10 field.port 4)
-    ∷ over 11 (index_checks 11 field.action 3)
-    ∷ over 12 (index_checks 12 field.mode 6)
+    ∷ over 9 (index_checks 9 field.Port 4)
+    ∷ over 10 (index_checks 10 field.Port 4)
+    ∷ over 11 (index_checks 11 field.Action 3)
+    ∷ over 12 (index_checks 12 field.Mode 6)
     ∷ over 5 enabled_modes_checks
     ∷ []
 
 -- the lists of scopes
 unfoldable pub scope_list_passes : List Pass
 scope_list_passes =
-    over 13 (index_checks 13 field.scope 7)
-    ∷ over 14 (index_checks 14 field.action 3)
+    over 13 (index_checks 13 field.Scope 7)
+    ∷ over 14 (index_checks 14 field.Action 3)
     ∷ over 15 (startup_checks 15)
     ∷ over 7 scope_list_checks
     ∷ []

@@ -1,9 +1,7 @@
 -- The answer of the federate check: document 01's number and values; 0, the enclaves and the summed links for acceptance. Assumes nothing.
-use Rattle.std.specs.Prelude.{ℕ, List, [], ◌∷◌}
-use Rattle.answers.specs.declared.Outcome.{Outcome}
-use Rattle.answers.specs.declared.Outcome.TheVariants.{Passed, Refused}
+use Rattle.std.specs.Prelude.{ℕ, List, [], ◌∷◌, Ok, Err}
 use Rattle.answers.specs.Numbers.{numbers}
-use Rattle.answers.specs.Checks.{first}
+use Rattle.answers.specs.Checks.{first, Outcome, passed}
 use Rattle.packing.specs.declared.PackKind.TheVariants.{Federate}
 use Rattle.packing.specs.Packing.{packing_checks}
 use Rattle.schema.specs.Records.{records_of}
@@ -21,8 +19,8 @@ federate_numbers (answer.Refused r) = numbers r
 
 -- a refusal, passed up
 abbrev pub refused_by : Outcome → FederateAnswer
-refused_by Passed = answer.Accepted 0 0
-refused_by (Refused r) = answer.Refused r
+refused_by (Ok u) = answer.Accepted 0 0
+refused_by (Err r) = answer.Refused r
 
 -- the links of all enclaves
 abbrev pub federate_links : List ℕ → List ℕ → List ℕ → ℕ

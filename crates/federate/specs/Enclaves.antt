@@ -2,7 +2,7 @@
 use Rattle.std.specs.Prelude.{ℕ, zero, suc, ◌+◌, ◌%◌, ◌^◌, cond, List, [], ◌++◌}
 use Rattle.identity.specs.Text.{identity_text}
 use Rattle.identity.specs.declared.IdentityPlace.{IdentityPlace}
-use Rattle.answers.specs.Fields as field
+use Rattle.answers.specs.declared.id.IdKind.TheVariants as kind
 use Rattle.answers.specs.Checks.{Check, first, run}
 use Rattle.schema.specs.Rows.{enclave_at}
 use Rattle.checks.specs.Image.{Image}
@@ -29,7 +29,7 @@ index_from start place = (start + place) % 2 ^ 32
 -- its identity against that of the enclave before
 abbrev pub order_checks : List ℕ → List ℕ → List ℕ → ℕ → ℕ → List Check
 order_checks p batch house start n =
-    after_first (enclaves_before p n) (id_order_checks (identity_text batch house) field.kind_enclave (index_from start (enclaves_before p n)) (id_at p n) (id_at p (enclave_before p n)))
+    after_first (enclaves_before p n) (id_order_checks (identity_text batch house) kind.Enclave (index_from start (enclaves_before p n)) (id_at p n) (id_at p (enclave_before p n)))
 
 -- record n, where it is an enclave's: the enclave's own checks, then its identity's
 unfoldable pub record_checks : List ℕ → List ℕ → List ℕ → ℕ → ℕ → List Check

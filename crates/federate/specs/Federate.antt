@@ -4,7 +4,9 @@ use Rattle.identity.specs.declared.IdentityPlace.{IdentityPlace}
 use Rattle.identity.specs.Text.{identity_text}
 use Rattle.range.specs.Range.{checked_end}
 use Rattle.answers.specs.declared.Refusal.TheVariants.{RangeOutOfBounds, OwnershipMismatch}
-use Rattle.answers.specs.Fields as field
+use Rattle.answers.specs.Fields.{row_field}
+use Rattle.answers.specs.declared.field.Field.TheVariants as field
+use Rattle.answers.specs.declared.id.IdKind.TheVariants as kind
 use Rattle.answers.specs.Checks.{Check, need, run}
 use Rattle.schema.specs.declared.rows.FederateImage.{FederateImage}
 use Rattle.schema.specs.Rows.{federate_at}
@@ -19,20 +21,20 @@ use Rattle.route_pairs.specs.RoutePairs.{route_record_checks}
 abbrev pub span_check : FederateImage → Check
 span_check f =
     let span = f.enclaves.0 in
-    need (end_within (checked_end span.start span.len) (2 ^ 32)) (RangeOutOfBounds 0 0 field.enclaves 255 span.start span.len)
+    need (end_within (checked_end span.start span.len) (2 ^ 32)) (RangeOutOfBounds (row_field 0 0 field.Enclaves) 255 span.start span.len)
 
 -- id, target, runtime, span
 unfoldable pub metadata_checks : (IdentityPlace → List ℕ) → FederateImage → List Check
 metadata_checks text f =
-    id_check text field.kind_federate 0 f.id
-    ∷ id_check text field.kind_target 0 f.target
-    ∷ id_check text field.kind_runtime 0 f.runtime
+    id_check text kind.Federate 0 f.id
+    ∷ id_check text kind.Target 0 f.target
+    ∷ id_check text kind.Runtime 0 f.runtime
     ∷ span_check f
     ∷ []
 
 -- as many enclaves as the span has
 abbrev pub count_check : FederateImage → ℕ → Check
-count_check f enclaves = need (eqb enclaves f.enclaves.0.len) (OwnershipMismatch 0 0 field.enclaves)
+count_check f enclaves = need (eqb enclaves f.enclaves.0.len) (OwnershipMismatch (row_field 0 0 field.Enclaves))
 
 -- the federate, each enclave, each route
 unfoldable pub federate_checks : List ℕ → List ℕ → List ℕ → List Check

@@ -7,7 +7,7 @@ use native.Mathlib.Omega.{arith}
 use lib.Dec.{ltb}
 use lib.ListN.{length, get_or, take, drop}
 use borrow.Author.Tests.{ltb-false, lt-ltb, le-ltb, eqb-true}
-use Rattle.identity.specs.declared.ByteOrder.TheVariants.{Less, Equal, Greater}
+use Rattle.std.specs.declared.cmp.Ordering.TheVariants.{Less, Equal, Greater}
 use Rattle.identity.specs.Order.{compared}
 use Rattle.identity.specs.Scan.{every, same_at}
 use Rattle.identity.proofs.Tests.{cases}

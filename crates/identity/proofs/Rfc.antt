@@ -8,14 +8,14 @@ use native.Mathlib.Omega.{arith}
 use lib.Dec.{ltb, leb}
 use lib.ListN.{length, get_or, drop, length-drop}
 use borrow.Author.Tests.{ltb-true, ltb-false, leb-true, lt-ltb, le-ltb, le-leb}
-use Rattle.identity.specs.declared.decode.Decoded.{Decoded}
-use Rattle.identity.specs.declared.decode.Decoded.TheVariants.{Scalar, Malformed}
-use Rattle.identity.specs.Utf8.{allowed, encode, encode_all, follows, value_of_two, value_of_three, value_of_four, scalar_at}
-use Rattle.identity.specs.Utf8.{Scalars, some, none, before, decode, decode_after, is_some}
+use Rattle.std.specs.Prelude.{Option, Some, None, is_some}
+use Rattle.identity.specs.declared.decode.Scalar.{Scalar}
+use Rattle.identity.specs.Utf8.{allowed, encode, encode_all, follows, value_of_two, value_of_three, value_of_four, scalar, scalar_at}
+use Rattle.identity.specs.Utf8.{before, decode, decode_after}
 use Rattle.identity.specs.Rfc3629.{rfc_scalar, rfc_scalars, Encodes, AllowedIsRfc, AfterED, AroundSurrogates, Utf8IsEncoding, DecodeInvertsEncode}
 use Rattle.identity.proofs.Tests.{cases, below_or_not, both, within-true}
 use Rattle.identity.proofs.Scalar.{one_byte, by_two, by_three, by-four, checked-scalar, Follows, is-follow, no_byte}
-use Rattle.identity.proofs.Scalar.{Form, one, two, three, four, form-at, width-at, decode-at, decode-malformed}
+use Rattle.identity.proofs.Scalar.{Form, one, two, three, four, form-at, width-at, decode-at, decode-none}
 
 -- all that is asked of `allowed`
 allowed-max : (v : ℕ) → allowed v ≡ true → v ≤ 0x10FFFF
@@ -33,18 +33,18 @@ unfolding allowed
 allowed_is_rfc v = rw (le-leb 0x0000 v (omega arith))
 
 -- the bytes of each form give its scalar
-is_one : (a : ℕ) (t : List ℕ) → a < 0x80 → scalar_at (a ∷ t) 0 ≡ Scalar a 1
+is_one : (a : ℕ) (t : List ℕ) → a < 0x80 → scalar_at (a ∷ t) 0 ≡ scalar a 1
 is_one a t h = sym (one_byte (a ∷ t) 0 a h refl)
 
-is-two : (a b : ℕ) (t : List ℕ) → 0xC2 ≤ a → a < 0xE0 → Follows b → allowed (value_of_two a b) ≡ true → scalar_at (a ∷ b ∷ t) 0 ≡ Scalar (value_of_two a b) 2
+is-two : (a b : ℕ) (t : List ℕ) → 0xC2 ≤ a → a < 0xE0 → Follows b → allowed (value_of_two a b) ≡ true → scalar_at (a ∷ b ∷ t) 0 ≡ scalar (value_of_two a b) 2
 is-two a b t l h f n =
     sym (by_two (a ∷ b ∷ t) 0 b _ l h refl (checked-scalar _ _ _ _ (is-follow b f) (omega arith) n))
 
-is-three : (a b c : ℕ) (t : List ℕ) → 0xE0 ≤ a → a < 0xF0 → Follows b → Follows c → 0x800 ≤ value_of_three a b c → allowed (value_of_three a b c) ≡ true → scalar_at (a ∷ b ∷ c ∷ t) 0 ≡ Scalar (value_of_three a b c) 3
+is-three : (a b c : ℕ) (t : List ℕ) → 0xE0 ≤ a → a < 0xF0 → Follows b → Follows c → 0x800 ≤ value_of_three a b c → allowed (value_of_three a b c) ≡ true → scalar_at (a ∷ b ∷ c ∷ t) 0 ≡ scalar (value_of_three a b c) 3
 is-three a b c t l h f g m n =
     sym (by_three (a ∷ b ∷ c ∷ t) 0 b c _ l h refl refl (checked-scalar (follows b && follows c) _ _ _ (rw (is-follow b f) (is-follow c g)) m n))
 
-is-four : (a b c d : ℕ) (t : List ℕ) → 0xF0 ≤ a → a < 0xF5 → Follows b → Follows c → Follows d → 0x10000 ≤ value_of_four a b c d → allowed (value_of_four a b c d) ≡ true → scalar_at (a ∷ b ∷ c ∷ d ∷ t) 0 ≡ Scalar (value_of_four a b c d) 4
+is-four : (a b c d : ℕ) (t : List ℕ) → 0xF0 ≤ a → a < 0xF5 → Follows b → Follows c → Follows d → 0x10000 ≤ value_of_four a b c d → allowed (value_of_four a b c d) ≡ true → scalar_at (a ∷ b ∷ c ∷ d ∷ t) 0 ≡ scalar (value_of_four a b c d) 4
 is-four a b c d t l h f g k m n =
     sym (by-four (a ∷ b ∷ c ∷ d ∷ t) 0 b c d _ l h refl refl refl (checked-scalar (follows b && (follows c && follows d)) _ _ _ (rw (is-follow b f, is-follow c g) (is-follow d k)) m n))
 
@@ -84,21 +84,21 @@ decode-one v t m =
     let l = ltb-false v 0x80 f1 in
     let h = ltb-true v 0x800 t2 in
     let e : value_of_two (0xC0 + v / 64) (0x80 + v % 64) ≡ v = omega arith in
-    rw t2 (decode-at ((0xC0 + v / 64) ∷ (0x80 + v % 64) ∷ t) 0 (omega arith) (is-two _ _ t (omega arith) (omega arith) (following-byte v) (rw e m) ∙ ap (λ (n : ℕ). Scalar n 2) e)))
+    rw t2 (decode-at ((0xC0 + v / 64) ∷ (0x80 + v % 64) ∷ t) 0 (omega arith) (is-two _ _ t (omega arith) (omega arith) (following-byte v) (rw e m) ∙ ap (λ (n : ℕ). scalar n 2) e)))
     (λ f2. rw f2
     (cases (ltb v 0x10000)
     (λ t3.
     let l = ltb-false v 0x800 f2 in
     let h = ltb-true v 0x10000 t3 in
     let e : value_of_three (0xE0 + v / 4096) (0x80 + v / 64 % 64) (0x80 + v % 64) ≡ v = omega arith in
-    rw t3 (decode-at ((0xE0 + v / 4096) ∷ (0x80 + v / 64 % 64) ∷ (0x80 + v % 64) ∷ t) 0 (omega arith) (is-three _ _ _ t (omega arith) (omega arith) (following-byte (v / 64)) (following-byte v) (rw e l) (rw e m) ∙ ap (λ (n : ℕ). Scalar n 3) e)))
+    rw t3 (decode-at ((0xE0 + v / 4096) ∷ (0x80 + v / 64 % 64) ∷ (0x80 + v % 64) ∷ t) 0 (omega arith) (is-three _ _ _ t (omega arith) (omega arith) (following-byte (v / 64)) (following-byte v) (rw e l) (rw e m) ∙ ap (λ (n : ℕ). scalar n 3) e)))
     (λ f3.
     let l = ltb-false v 0x10000 f3 in
     let e : value_of_four (0xF0 + v / 262144) (0x80 + v / 4096 % 64) (0x80 + v / 64 % 64) (0x80 + v % 64) ≡ v = value-four v (allowed-max v m) in
     let k = allowed-max v m in
-    rw f3 (decode-at ((0xF0 + v / 262144) ∷ (0x80 + v / 4096 % 64) ∷ (0x80 + v / 64 % 64) ∷ (0x80 + v % 64) ∷ t) 0 (omega arith) (is-four _ _ _ _ t (omega arith) (omega arith) (following-byte (v / 4096)) (following-byte (v / 64)) (following-byte v) (rw e l) (rw e m) ∙ ap (λ (n : ℕ). Scalar n 4) e)))))))
+    rw f3 (decode-at ((0xF0 + v / 262144) ∷ (0x80 + v / 4096 % 64) ∷ (0x80 + v / 64 % 64) ∷ (0x80 + v % 64) ∷ t) 0 (omega arith) (is-four _ _ _ _ t (omega arith) (omega arith) (following-byte (v / 4096)) (following-byte (v / 64)) (following-byte v) (rw e l) (rw e m) ∙ ap (λ (n : ℕ). scalar n 4) e)))))))
 
-decode-encode : (vs : List ℕ) → rfc_scalars vs ≡ true → decode (encode_all vs) ≡ some vs
+decode-encode : (vs : List ℕ) → rfc_scalars vs ≡ true → decode (encode_all vs) ≡ Some vs
 unfolding encode_all decode_after
 decode-encode [] e = refl
 decode-encode (v ∷ vs) e =
@@ -171,7 +171,7 @@ front-four a b c d t l h f g k m n =
       is_allowed = n;
     }
 
-front : (s : List ℕ) {v w : ℕ} → Form (get_or s 0 0) (get_or s 1 0) (get_or s 2 0) (get_or s 3 0) (Scalar v w) → 0 < length s → Front s v w
+front : (s : List ℕ) {x : Scalar} → Form (get_or s 0 0) (get_or s 1 0) (get_or s 2 0) (get_or s 3 0) (Some x) → 0 < length s → Front s x.value x.width
 front [] f h = absurd (omega arith)
 front (a ∷ t) (one l) h = front-one a t l
 front (a ∷ []) (two l u f n) h = absurd (no_byte f)
@@ -197,15 +197,15 @@ surrogate a b c e f g n =
     (λ o. let l = (within-true 0xE000 0x10FFFF v (rw o at n)).0 in absurd (omega arith)))
 
 -- the scalars after one that stands in front
-data Rest (v : ℕ) (x : Scalars) (vs : List ℕ) : Type 0 where
-  rest : (us : List ℕ) → x ≡ some us → vs ≡ v ∷ us → Rest v x vs
+data Rest (v : ℕ) (x : Option (List ℕ)) (vs : List ℕ) : Type 0 where
+  rest : (us : List ℕ) → x ≡ Some us → vs ≡ v ∷ us → Rest v x vs
 
-rest_of : (v : ℕ) (x : Scalars) (vs : List ℕ) → before v x ≡ some vs → Rest v x vs
-rest_of v (some us) vs e = rest us refl (cc)
-rest_of v none vs e = let z : ◌≡◌ {A = ℕ} 0 1 = cc in absurd (omega arith)
+rest_of : (v : ℕ) (x : Option (List ℕ)) (vs : List ℕ) → before v x ≡ Some vs → Rest v x vs
+rest_of v (Some us) vs e = rest us refl (cc)
+rest_of v None vs e = let z : ◌≡◌ {A = ℕ} 0 1 = cc in absurd (omega arith)
 
 abbrev Shorter : List ℕ → Type 0
-Shorter s = (u us : List ℕ) → length u < length s → decode u ≡ some us → Encodes u us
+Shorter s = (u us : List ℕ) → length u < length s → decode u ≡ Some us → Encodes u us
 
 joins : (a : ℕ) (t : List ℕ) {vs : List ℕ} (v w : ℕ) → Front (a ∷ t) v w → 1 ≤ w → Rest v (decode (drop w (a ∷ t))) vs → Shorter (a ∷ t) → Encodes (a ∷ t) vs
 unfolding encode_all
@@ -215,45 +215,45 @@ joins a t v w f l (rest us e q) ih =
     (record { bytes = f.bytes ∙ ap (encode v ++◌) i.bytes; scalars = rw (sym (allowed_is_rfc v) ∙ f.is_allowed) i.scalars })
 
 -- a text is the encodings of its scalars, if the shorter ones are
-step : (a : ℕ) (t vs : List ℕ) (x : Decoded) → scalar_at (a ∷ t) 0 ≡ x → decode (a ∷ t) ≡ some vs → Shorter (a ∷ t) → Encodes (a ∷ t) vs
-step a t vs Malformed e q ih =
-    let n = decode-malformed (a ∷ t) 0 (omega arith) e in
+step : (a : ℕ) (t vs : List ℕ) (x : Option Scalar) → scalar_at (a ∷ t) 0 ≡ x → decode (a ∷ t) ≡ Some vs → Shorter (a ∷ t) → Encodes (a ∷ t) vs
+step a t vs None e q ih =
+    let n = decode-none (a ∷ t) 0 (omega arith) e in
     let z : ◌≡◌ {A = ℕ} 0 1 = cc in
     absurd (omega arith)
-step a t vs (Scalar v w) e q ih =
-    let d : decode (a ∷ t) ≡ before v (decode (drop w (a ∷ t))) = rw zero-add at (decode-at (a ∷ t) 0 (omega arith) e) in
+step a t vs (Some x) e q ih =
+    let d : decode (a ∷ t) ≡ before x.value (decode (drop x.width (a ∷ t))) = rw zero-add at (decode-at (a ∷ t) 0 (omega arith) e) in
     let f = front (a ∷ t) (form-at (a ∷ t) 0 e) (omega arith) in
-    joins a t v w f (width-at (a ∷ t) 0 e).0 (rest_of v (decode (drop w (a ∷ t))) vs (sym d ∙ q)) ih
+    joins a t x.value x.width f (width-at (a ∷ t) 0 e).0 (rest_of x.value (decode (drop x.width (a ∷ t))) vs (sym d ∙ q)) ih
 
-by-list : (s vs : List ℕ) → decode s ≡ some vs → Shorter s → Encodes s vs
+by-list : (s vs : List ℕ) → decode s ≡ Some vs → Shorter s → Encodes s vs
 unfolding decode_after encode_all
 by-list [] vs e ih =
     let z : [] ≡ vs = cc in
     subst (Encodes []) z (record { bytes = refl; scalars = refl })
 by-list (a ∷ t) vs e ih = step a t vs (scalar_at (a ∷ t) 0) refl e ih
 
-encodes-by : (n : ℕ) (s vs : List ℕ) → length s ≤ n → decode s ≡ some vs → Encodes s vs
+encodes-by : (n : ℕ) (s vs : List ℕ) → length s ≤ n → decode s ≡ Some vs → Encodes s vs
 encodes-by zero s vs h e = by-list s vs e (λ u us l q. absurd (omega arith))
 encodes-by (suc n) s vs h e = by-list s vs e (λ u us l q. encodes-by n u us (omega arith) q)
 
-encodes : (s vs : List ℕ) → decode s ≡ some vs → Encodes s vs
+encodes : (s vs : List ℕ) → decode s ≡ Some vs → Encodes s vs
 encodes s vs e = encodes-by (length s) s vs (omega arith) e
 
-decodes : (s vs : List ℕ) → Encodes s vs → decode s ≡ some vs
+decodes : (s vs : List ℕ) → Encodes s vs → decode s ≡ Some vs
 decodes s vs e = rw e.bytes (decode-encode vs e.scalars)
 
 pub decode-inverts-encode : DecodeInvertsEncode
 decode-inverts-encode s vs = (encodes s vs, decodes s vs)
 
 -- the scalars of a text that has some
-found : (s : List ℕ) (x : Scalars) → decode s ≡ x → is_some x ≡ true → (vs : List ℕ) × Encodes s vs
-found s (some vs) e t = (vs, encodes s vs e)
-found s none e t = absurd (true≢false (sym t))
+found : (s : List ℕ) (x : Option (List ℕ)) → decode s ≡ x → is_some x ≡ true → (vs : List ℕ) × Encodes s vs
+found s (Some vs) e t = (vs, encodes s vs e)
+found s None e t = absurd (true≢false (sym t))
 
 pub utf8-is-encoding : Utf8IsEncoding
 utf8-is-encoding s = (found s (decode s) refl, λ p. ap is_some (decodes s p.0 p.1))
 
-after-form : {a b c d v w : ℕ} → Form a b c d (Scalar v w) → a ≡ 0xED → b ≤ 0x9F
+after-form : {a b c d : ℕ} {x : Scalar} → Form a b c d (Some x) → a ≡ 0xED → b ≤ 0x9F
 after-form (one l) e = absurd (omega arith)
 after-form (two l u f n) e = absurd (omega arith)
 after-form {a} {b} {c} (three l u f g m n) e = surrogate a b c e f g n

@@ -61,23 +61,12 @@ along test P o (suc k) f e p =
     let n : (o + k) + 1 ≡ o + suc k = omega arith in
     rw n at (f (o + k) (omega arith) (omega arith) b.1 (along test P o k (λ j l h. f j l (omega arith)) b.0 p))
 
--- how a step is made
-module _ (good : ℕ → Bool) (end i : ℕ) where
-  pub stopped : i ≤ end → good i ≡ false → Stepped good end i 0
-  stopped h e = record { inside = omega arith; stop = λ _. e; on = λ n. absurd (n refl) }
-
-  pub moved : (w : ℕ) → i + w ≤ end → 1 ≤ w → good i ≡ good (i + w) → Stepped good end i w
-  moved w h l e = record { inside = h; stop = λ z. absurd (none z); on = λ _. e }
-    where
-      none : w ≡ 0 → ⊥
-      none z = omega arith
-
-  pub passed_none : i ≤ end → Passed good end i 0
-  passed_none h = record { inside = omega arith; same = rw add-zero }
+pub passed_none : (good : ℕ → Bool) (end i : ℕ) → i ≤ end → Passed good end i 0
+passed_none good end i h = record { inside = omega arith; same = rw add-zero }
 
 -- a step over bytes that were passed over
 pub passed-step : {good : ℕ → Bool} {end i w : ℕ} → Passed good end i w → (w ≡ 0 → ⊥) → Stepped good end i w
-passed-step {good} {end} {i} {w} p d = moved good end i w p.inside (omega arith) p.same
+passed-step p d = record { inside = p.inside; forward = omega arith; same = p.same }
 
 -- what is so at o, and not k places on
 pub not_there : (test : ℕ → Bool) (o k : ℕ) (b : Bool) → test o ≡ true → b ≡ test (o + k) → not b ≡ true → 1 ≤ k
@@ -90,14 +79,14 @@ pub record Kept (whole : Bool) (good : ℕ → Bool) (end i : ℕ) : Type 0 wher
   pub inside : i ≤ end
   pub same : whole ≡ good i
 
-module _ {whole : Bool} {good : ℕ → Bool} {end i w : ℕ} (p : Kept whole good end i) (q : Stepped good end i w) where
-  pub kept_on : (w ≡ 0 → ⊥) → Kept whole good end (i + w)
-  kept_on d = record { inside = q.inside; same = p.same ∙ q.on d }
+module _ {whole : Bool} {good : ℕ → Bool} {end i : ℕ} (p : Kept whole good end i) where
+  pub kept-stop : good i ≡ false → false ≡ whole
+  kept-stop z = sym (p.same ∙ z)
 
-  pub kept-stop : w ≡ 0 → false ≡ whole
-  kept-stop z = sym (p.same ∙ q.stop z)
+  pub kept_on : {w : ℕ} → Stepped good end i w → Kept whole good end (i + w)
+  kept_on q = record { inside = q.inside; same = p.same ∙ q.same }
 
-  pub kept_less : (w ≡ 0 → ⊥) → end - (i + w) < end - i
-  kept_less d = let h = q.inside in omega arith
+  pub kept_less : {w : ℕ} → Stepped good end i w → end - (i + w) < end - i
+  kept_less q = let h = q.inside in let l = q.forward in omega arith
 
 pub ruleset kept_laws = (kept_on, kept-stop, kept_less)

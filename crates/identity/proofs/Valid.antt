@@ -8,16 +8,16 @@ use native.Mathlib.Omega.{arith}
 use lib.Dec.{ltb, eqb}
 use lib.ListN.{length, drop, get_or}
 use borrow.Author.Tests.{eqb-true, eqb-false, ne_eqb}
-use Rattle.identity.specs.declared.decode.Decoded.{Decoded}
-use Rattle.identity.specs.declared.decode.Decoded.TheVariants.{Scalar, Malformed}
-use Rattle.identity.specs.Utf8.{Scalars, some, none, before, decode, scalar_at}
+use Rattle.std.specs.Prelude.{Option, Some, None}
+use Rattle.identity.specs.declared.decode.Scalar.{Scalar}
+use Rattle.identity.specs.Utf8.{before, decode, scalar, scalar_at}
 use Rattle.identity.specs.Unicode.{control, white_space}
 use Rattle.identity.specs.Identity.{no_control, last, valid_scalars, valid_text, valid_id}
 use Rattle.identity.specs.Scan.{every, printable, ascii_at, refused, Stepped, id_from}
 use Rattle.identity.proofs.Tests.{cases, both, and-false, within-true, within_in}
 use Rattle.identity.proofs.Unicode.{printable-no-control, visible-no-space}
-use Rattle.identity.proofs.Steps.{along, stopped, moved, passed-step, Kept, kept_laws}
-use Rattle.identity.proofs.Scalar.{ascii-scalar, width-at, ends_at, next_fits, decode-at, decode-malformed, decode-end}
+use Rattle.identity.proofs.Steps.{along, passed-step, Kept, kept_laws}
+use Rattle.identity.proofs.Scalar.{ascii-scalar, width-at, ends_at, next_fits, decode-at, decode-none, decode-end}
 
 abbrev none_left : List ℕ → Bool
 none_left [] = true
@@ -28,13 +28,13 @@ abbrev valid_rest : Bool → List ℕ → Bool
 valid_rest first [] = not first
 valid_rest first (v ∷ vs) = not (refused v (first || none_left vs)) && valid_rest false vs
 
-abbrev valid_rest_text : Bool → Scalars → Bool
-valid_rest_text first (some vs) = valid_rest first vs
-valid_rest_text first none = false
+abbrev valid_rest_text : Bool → Option (List ℕ) → Bool
+valid_rest_text first (Some vs) = valid_rest first vs
+valid_rest_text first None = false
 
-abbrev none-left-text : Scalars → Bool
-none-left-text (some vs) = none_left vs
-none-left-text none = false
+abbrev none-left-text : Option (List ℕ) → Bool
+none-left-text (Some vs) = none_left vs
+none-left-text None = false
 
 -- the four cases of the definition, over the truth values: c control, w white space
 only : (c w : Bool) → (not c && true) && (not w && not w) ≡ not (c || (true && w)) && true
@@ -68,22 +68,22 @@ valid-scalars (v ∷ []) = only (control v) (white_space v)
 valid-scalars (v ∷ u ∷ vs) =
     first-of-many (control v) (white_space v) (no_control (u ∷ vs)) (not (white_space (last u vs))) (valid_rest false (u ∷ vs)) (valid-rest u vs)
 
-valid-text : (x : Scalars) → valid_text x ≡ valid_rest_text true x
-valid-text (some vs) = valid-scalars vs
-valid-text none = refl
+valid-text : (x : Option (List ℕ)) → valid_text x ≡ valid_rest_text true x
+valid-text (Some vs) = valid-scalars vs
+valid-text None = refl
 
-rest-before : (first : Bool) (v : ℕ) (x : Scalars) → valid_rest_text first (before v x) ≡ not (refused v (first || none-left-text x)) && valid_rest_text false x
-rest-before first v (some vs) = refl
-rest-before first v none = sym (and-false (not (refused v (first || false))))
+rest-before : (first : Bool) (v : ℕ) (x : Option (List ℕ)) → valid_rest_text first (before v x) ≡ not (refused v (first || none-left-text x)) && valid_rest_text false x
+rest-before first v (Some vs) = refl
+rest-before first v None = sym (and-false (not (refused v (first || false))))
 
 -- no scalar is left exactly at the end
-left-before : (v : ℕ) (x : Scalars) → none-left-text (before v x) ≡ false
-left-before v (some vs) = refl
-left-before v none = refl
+left-before : (v : ℕ) (x : Option (List ℕ)) → none-left-text (before v x) ≡ false
+left-before v (Some vs) = refl
+left-before v None = refl
 
-left_by : (x : Decoded) (s : List ℕ) (i : ℕ) → scalar_at s i ≡ x → i < length s → none-left-text (decode (drop i s)) ≡ false
-left_by (Scalar v w) s i e h = ap none-left-text (decode-at s i h e) ∙ left-before v (decode (drop (i + w) s))
-left_by Malformed s i e h = ap none-left-text (decode-malformed s i h e)
+left_by : (x : Option Scalar) (s : List ℕ) (i : ℕ) → scalar_at s i ≡ x → i < length s → none-left-text (decode (drop i s)) ≡ false
+left_by (Some x) s i e h = ap none-left-text (decode-at s i h e) ∙ left-before x.value (decode (drop (i + x.width) s))
+left_by None s i e h = ap none-left-text (decode-none s i h e)
 
 left_at : (s : List ℕ) (n : ℕ) → n ≤ length s → none-left-text (decode (drop n s)) ≡ eqb n (length s)
 left_at s n h =
@@ -95,39 +95,41 @@ left_at s n h =
     more d = omega arith
 
 -- `id_from` by the rest alone: a letter before it keeps it as it is
-rest-is : (first : Bool) (x : Scalars) → valid_text (cond first x (before 0x61 x)) ≡ valid_rest_text first x
+rest-is : (first : Bool) (x : Option (List ℕ)) → valid_text (cond first x (before 0x61 x)) ≡ valid_rest_text first x
 unfolding control white_space
 rest-is true x = valid-text x
-rest-is false (some vs) = valid-scalars (0x61 ∷ vs)
-rest-is false none = refl
+rest-is false (Some vs) = valid-scalars (0x61 ∷ vs)
+rest-is false None = refl
 
-at-scalar : (s : List ℕ) (i : ℕ) {v w : ℕ} → i < length s → scalar_at s i ≡ Scalar v w → id_from s i ≡ not (refused v (eqb i 0 || eqb (i + w) (length s))) && id_from s (i + w)
-at-scalar s i {v} {w} h e =
-    let z : eqb (i + w) 0 ≡ false = ne_eqb (i + w) 0 (λ q. omega (arith, (width-at s i e).0)) in
+at-scalar : (s : List ℕ) (i : ℕ) {x : Scalar} → i < length s → scalar_at s i ≡ Some x → id_from s i ≡ not (refused x.value (eqb i 0 || eqb (i + x.width) (length s))) && id_from s (i + x.width)
+at-scalar s i {x} h e =
+    let z : eqb (i + x.width) 0 ≡ false = ne_eqb (i + x.width) 0 (λ q. omega (arith, (width-at s i e).0)) in
     rest-is (eqb i 0) (decode (drop i s))
     ∙ ap (valid_rest_text (eqb i 0)) (decode-at s i h e)
-    ∙ rest-before (eqb i 0) v (decode (drop (i + w) s))
-    ∙ rw (left_at s (i + w) (ends_at s i h e), z, rest-is false (decode (drop (i + w) s)))
+    ∙ rest-before (eqb i 0) x.value (decode (drop (i + x.width) s))
+    ∙ rw (left_at s (i + x.width) (ends_at s i h e), z, rest-is false (decode (drop (i + x.width) s)))
 
-pub over-scalar : (s : List ℕ) (i : ℕ) {v w : ℕ} → i < length s → scalar_at s i ≡ Scalar v w → refused v (eqb i 0 || eqb (i + w) (length s)) ≡ false → id_from s i ≡ id_from s (i + w)
+pub over-scalar : (s : List ℕ) (i : ℕ) {x : Scalar} → i < length s → scalar_at s i ≡ Some x → refused x.value (eqb i 0 || eqb (i + x.width) (length s)) ≡ false → id_from s i ≡ id_from s (i + x.width)
 over-scalar s i h e r = at-scalar s i h e ∙ rw r
 
 -- a step over what was found at i, a scalar or none; r says whether no identity has that scalar there
 module _ (s : List ℕ) (i : ℕ) (h : i < length s) where
-  pub id-malformed : Malformed ≡ scalar_at s i → Stepped (id_from s) (length s) i 0
-  id-malformed e =
-      stopped (id_from s) (length s) i (omega arith)
-      (rest-is (eqb i 0) (decode (drop i s)) ∙ ap (valid_rest_text (eqb i 0)) (decode-malformed s i h (sym e)))
+  pub id-none : None ≡ scalar_at s i → id_from s i ≡ false
+  id-none e = rest-is (eqb i 0) (decode (drop i s)) ∙ ap (valid_rest_text (eqb i 0)) (decode-none s i h (sym e))
 
-  pub id-refused : {v w : ℕ} (r : Bool) → Scalar v w ≡ scalar_at s i → r ≡ refused v (eqb i 0 || eqb (i + w) (length s)) → r ≡ true → Stepped (id_from s) (length s) i 0
-  id-refused r e g t =
-      stopped (id_from s) (length s) i (omega arith) (at-scalar s i h (sym e) ∙ rw (sym g ∙ t))
+  module _ {v w : ℕ} (r : Bool) (e : scalar v w ≡ scalar_at s i) (g : r ≡ refused v (eqb i 0 || eqb (i + w) (length s))) where
+    pub id-refused : r ≡ true → id_from s i ≡ false
+    id-refused t = at-scalar s i h (sym e) ∙ rw (sym g ∙ t)
 
-  pub id-scalar : {v w : ℕ} (r : Bool) → Scalar v w ≡ scalar_at s i → r ≡ refused v (eqb i 0 || eqb (i + w) (length s)) → r ≡ false → Stepped (id_from s) (length s) i w
-  id-scalar {v} {w} r e g t =
-      moved (id_from s) (length s) i w (ends_at s i h (sym e)) (width-at s i (sym e)).0 (over-scalar s i h (sym e) (sym g ∙ t))
+    pub id-scalar : r ≡ false → Stepped (id_from s) (length s) i w
+    id-scalar t =
+        record {
+          inside = ends_at s i h (sym e);
+          forward = (width-at s i (sym e)).0;
+          same = over-scalar s i h (sym e) (sym g ∙ t);
+        }
 
-pub ruleset step_laws = (passed-step, next_fits, id-malformed, id-refused, id-scalar)
+pub ruleset step_laws = (passed-step, next_fits, id-none, id-refused, id-scalar)
 
 pub id-start : (s : List ℕ) → Kept (valid_id s) (id_from s) (length s) 0
 id-start s = record { inside = omega arith; same = refl }

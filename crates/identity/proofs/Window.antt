@@ -7,8 +7,7 @@ use native.Mathlib.Omega.{arith}
 use lib.Dec.{leb, ltb, eqb}
 use lib.ListN.{length, get_or}
 use borrow.Author.Tests.{ltb-true, ltb-false, leb-false, le-leb, lt-leb, eq-eqb, ne_eqb, not-true}
-use Rattle.identity.specs.declared.decode.Decoded.TheVariants.{Scalar}
-use Rattle.identity.specs.Utf8.{allowed, follows, value_of_two, value_of_three, value_of_four, scalar_at}
+use Rattle.identity.specs.Utf8.{allowed, follows, value_of_two, value_of_three, value_of_four, scalar, scalar_at}
 use Rattle.identity.specs.Unicode.{control}
 use Rattle.identity.specs.Scan.{ascii, printable, Run, Passed, utf8_from, id_from}
 use Rattle.identity.specs.Window.{due, low_after, high_after, second, starts, fits_at, quiet_at}
@@ -110,7 +109,7 @@ second_is any b p e =
 record Over (any : Bool) (s : List ℕ) (i e : ℕ) : Type 0 where
   pub value : ℕ
   pub wide : ℕ
-  pub is : scalar_at s i ≡ Scalar value wide
+  pub is : scalar_at s i ≡ scalar value wide
   pub inside : i + wide ≤ e
   pub quiet : quiet_at s (i + wide) ≡ true
   pub free : any ≡ false → control value ≡ false
@@ -246,7 +245,7 @@ module _ (any : Bool) (s : List ℕ) (i e : ℕ) (l : 3 ≤ i) (h : i < e) (fit 
       (λ u. below_or_not a 0xF0 (λ v. by-three-bytes u (omega arith)) (λ v. by-four-bytes v x1)))
 
 -- what passes over such scalars passes over all of them
-module _ (any : Bool) (s : List ℕ) (e : ℕ) (z : quiet_at s e ≡ true) (good : ℕ → Bool) (step : (j v w : ℕ) → 3 ≤ j → j + w ≤ e → scalar_at s j ≡ Scalar v w → (any ≡ false → control v ≡ false) → good j ≡ good (j + w)) where
+module _ (any : Bool) (s : List ℕ) (e : ℕ) (z : quiet_at s e ≡ true) (good : ℕ → Bool) (step : (j v w : ℕ) → 3 ≤ j → j + w ≤ e → scalar_at s j ≡ scalar v w → (any ≡ false → control v ≡ false) → good j ≡ good (j + w)) where
   climb : (n i : ℕ) → e - i ≤ n → 3 ≤ i → i ≤ e → ((j : ℕ) → i ≤ j → j < e → fits_at any s j ≡ true) → quiet_at s i ≡ true → good i ≡ good e
   climb zero i m l h fit q = let k : i ≡ e = omega arith in rw k
   climb (suc n) i m l h fit q =
@@ -263,7 +262,7 @@ module _ (any : Bool) (s : List ℕ) (i k w : ℕ) (l : 3 ≤ i) (run : Run (fit
   within : i + w ≤ length s - 1
   within = let r = run.inside in omega arith
 
-  passed : (good : ℕ → Bool) → ((j v n : ℕ) → 3 ≤ j → j + n ≤ i + w → scalar_at s j ≡ Scalar v n → (any ≡ false → control v ≡ false) → good j ≡ good (j + n)) → Passed good (length s) i w
+  passed : (good : ℕ → Bool) → ((j v n : ℕ) → 3 ≤ j → j + n ≤ i + w → scalar_at s j ≡ scalar v n → (any ≡ false → control v ≡ false) → good j ≡ good (j + n)) → Passed good (length s) i w
   passed good step =
       record {
         inside = let r = within in omega arith;

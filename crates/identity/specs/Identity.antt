@@ -1,6 +1,6 @@
 -- A valid identity, over the scalars of its text (document 01, module 2).
-use Rattle.std.specs.Prelude.{ℕ, Bool, true, false, not, ◌&&◌, List, [], ◌∷◌}
-use Rattle.identity.specs.Utf8.{Scalars, some, none, decode}
+use Rattle.std.specs.Prelude.{ℕ, Bool, true, false, not, ◌&&◌, List, [], ◌∷◌, Option, Some, None}
+use Rattle.identity.specs.Utf8.{decode}
 use Rattle.identity.specs.Unicode.{control, white_space}
 
 abbrev pub no_control : List ℕ → Bool
@@ -17,9 +17,9 @@ unfoldable pub valid_scalars : List ℕ → Bool
 valid_scalars [] = false
 valid_scalars (v ∷ vs) = no_control (v ∷ vs) && (not (white_space v) && not (white_space (last v vs)))
 
-abbrev pub valid_text : Scalars → Bool
-valid_text (some vs) = valid_scalars vs
-valid_text none = false
+abbrev pub valid_text : Option (List ℕ) → Bool
+valid_text (Some vs) = valid_scalars vs
+valid_text None = false
 
 abbrev pub valid_id : List ℕ → Bool
 valid_id s = valid_text (decode s)

@@ -7,4 +7,3 @@ pub mod Order
 pub mod Text
 pub mod Scan
 pub mod Window
-pub mod Short

@@ -1,8 +1,7 @@
 -- What `utf8` and `decode` have to do with RFC 3629. proofs/Rfc.antt proves each statement.
-use Rattle.std.specs.Prelude.{ℕ, ◌+◌, ◌≤◌, Bool, true, false, ◌&&◌, ◌||◌, ◌≡◌, List, [], ◌∷◌, get_or}
+use Rattle.std.specs.Prelude.{ℕ, ◌+◌, ◌≤◌, Bool, true, false, ◌&&◌, ◌||◌, ◌≡◌, List, [], ◌∷◌, get_or, Some}
 use Rattle.identity.specs.Within.{within}
-use Rattle.identity.specs.declared.decode.Decoded.TheVariants.{Scalar}
-use Rattle.identity.specs.Utf8.{allowed, encode_all, some, scalar_at, decode, utf8}
+use Rattle.identity.specs.Utf8.{allowed, encode_all, scalar, scalar_at, decode, utf8}
 
 -- The RFC's scalars, U+0000 to U+10FFFF without those reserved for UTF-16, U+D800 to U+DFFF (section 3).
 abbrev pub rfc_scalar : ℕ → Bool
@@ -28,11 +27,11 @@ Utf8IsEncoding =
 
 -- The scalars decoded are the ones encoded, and no others.
 abbrev pub DecodeInvertsEncode : Type 0
-DecodeInvertsEncode = (s vs : List ℕ) → (decode s ≡ some vs → Encodes s vs) × (Encodes s vs → decode s ≡ some vs)
+DecodeInvertsEncode = (s vs : List ℕ) → (decode s ≡ Some vs → Encodes s vs) × (Encodes s vs → decode s ≡ Some vs)
 
 -- After ED, where a scalar stands, the next byte is at most 9F.
 abbrev pub AfterED : Type 0
-AfterED = (s : List ℕ) (i v w : ℕ) → get_or s i 0 ≡ 0xED → scalar_at s i ≡ Scalar v w → get_or s (i + 1) 0 ≤ 0x9F
+AfterED = (s : List ℕ) (i v w : ℕ) → get_or s i 0 ≡ 0xED → scalar_at s i ≡ scalar v w → get_or s (i + 1) 0 ≤ 0x9F
 
 -- The last scalar before the surrogates and the first after them are good; the first and the last surrogate are not.
 abbrev pub AroundSurrogates : Type 0

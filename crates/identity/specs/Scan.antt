@@ -1,5 +1,5 @@
 -- Auxiliary: what the contracts of the private functions cite, and no public contract.
-use Rattle.std.specs.Prelude.{ℕ, zero, suc, ◌+◌, ◌≤◌, Bool, true, false, ◌&&◌, ◌||◌, cond, ◌≡◌, List, ltb, eqb, get_or, drop}
+use Rattle.std.specs.Prelude.{ℕ, zero, suc, ◌+◌, ◌<◌, ◌≤◌, Bool, true, false, ◌&&◌, ◌||◌, cond, ◌≡◌, List, ltb, eqb, get_or, drop}
 use Rattle.identity.specs.Within.{within}
 use Rattle.identity.specs.Utf8.{before, decode, utf8}
 use Rattle.identity.specs.Unicode.{control, white_space}
@@ -35,11 +35,11 @@ pub record Passed (good : ℕ → Bool) (end i w : ℕ) : Type 0 where
   pub inside : i + w ≤ end
   pub same : good i ≡ good (i + w)
 
--- A step of w bytes from i: 0 where the rest from i is not good, else it is good exactly where the rest after the step is.
+-- A step of w bytes from i, at least one: the rest from i is good exactly where the rest after them is.
 pub record Stepped (good : ℕ → Bool) (end i w : ℕ) : Type 0 where
   pub inside : i + w ≤ end
-  pub stop : w ≡ 0 → good i ≡ false
-  pub on : (w ≡ 0 → ⊥) → good i ≡ good (i + w)
+  pub forward : 0 < w
+  pub same : good i ≡ good (i + w)
 
 -- The rest of s from i is UTF-8.
 abbrev pub utf8_from : List ℕ → ℕ → Bool

@@ -3,21 +3,14 @@
 
 pub mod compare;
 pub mod decode;
-pub mod place;
 pub mod scan;
+pub mod texts;
 
 // The place of an identity: which lent text, where it starts, how long it is.
-#[derive(Clone, Copy)]
+// `house` is a bit of the pack, so it is a `bool`.
+#[derive(Clone, Copy, Debug, PartialEq, Eq)]
 pub struct IdentityPlace {
     pub house: bool,
     pub start: u32,
     pub len: u32,
-}
-
-// The order of two texts by byte.
-#[derive(Clone, Copy)]
-pub enum ByteOrder {
-    Less,
-    Equal,
-    Greater,
 }

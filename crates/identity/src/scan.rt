@@ -1,12 +1,11 @@
 // Whether a text is UTF-8, and whether it is a valid identity: plain ASCII at once, else by blocks and scalar by scalar.
-ghost use Rattle.std.specs.Prelude.{◌≡◌, true, false, ◌+◌, ◌-◌, ◌<◌, ◌≤◌, length};
+ghost use Rattle.std.specs.Prelude.{◌≡◌, true, false, ◌+◌, ◌-◌, ◌<◌, ◌≤◌, length, IfSome, IfNone};
 ghost use Rattle.identity.specs.Utf8.{utf8};
 ghost use Rattle.identity.specs.Identity.{valid_id};
-ghost use Rattle.identity.specs.Short.{short_ascii};
 ghost use Rattle.identity.specs.Scan.{ascii, every, ascii_at, refused, Run, Passed, Stepped, utf8_from, id_from};
 ghost use Rattle.identity.specs.Window.{due, second, starts, fits, fits_at, quiet_at};
 
-use crate::decode::{Decoded, follows, unicode_control, unicode_whitespace, utf8_scalar};
+use crate::decode::{follows, unicode_control, unicode_whitespace, utf8_scalar};
 
 // ASCII; a control only where `any` may stand.
 fn ascii(any: bool, b: u8) -> bool
@@ -22,17 +21,9 @@ fn all_ascii(any: bool, text: &[u8]) -> bool
 {
     let mut all = true;
     for b in text {
-        all = all & ascii(any, *b);
+        all &= ascii(any, *b);
     }
     all
-}
-
-// Whether a text is 4 to 16 bytes of ASCII.
-pub fn short_ascii(text: &[u8]) -> bool
-    ensures { result ≡ short_ascii text.now }
-{
-    let len = text.len();
-    4 <= len && len <= 16 && all_ascii(true, text)
 }
 
 // Whether a following byte is due after p, q and r, the nearest of them first.
@@ -77,7 +68,7 @@ fn fits_block(any: bool, text: &[u8], at: usize) -> bool
     let mut all = true;
     for k in 0..16 {
         let i = at + k;
-        all = all & fits(any, text[i], text[i - 1], text[i - 2], text[i - 3]);
+        all &= fits(any, text[i], text[i - 1], text[i - 2], text[i - 3]);
     }
     all
 }
@@ -90,6 +81,7 @@ fn fits_blocks(any: bool, text: &[u8], at: usize) -> usize
     ensures { Run (fits_at any text.now) at result (length text.now - 1) }
 {
     let rest = text.len() - at;
+    // A block at a time, while all of it fits.
     let mut k = 0;
     while k + 16 < rest && fits_block(any, text, at + k) {
         k += 16;
@@ -106,7 +98,7 @@ fn quiet(text: &[u8], at: usize) -> bool
     !due(text[at - 1], text[at - 2], text[at - 3])
 }
 
-// How many of the k bytes from `at` are whole scalars: the beginning of one at the end is left off.
+// How many of the k bytes from `at` are whole scalars: the beginning of one at the end is left off, a byte at a time, since each place looks back three bytes.
 #[tactic(auto, using(crate::proofs::Steps::not_there))]
 fn whole_scalars(text: &[u8], at: usize, k: usize) -> usize
     requires after_three { 3 ≤ at }
@@ -136,20 +128,19 @@ fn inner_scalars(any: bool, text: &[u8], at: usize) -> usize
     }
 }
 
-// How many bytes from `at` on are whole scalars: by blocks, or one scalar; 0 where there is none.
+// How many bytes from `at` on are whole scalars: by blocks, or one scalar; none where there is no scalar.
 #[tactic(auto, using(crate::proofs::Utf8::step_laws))]
-fn utf8_step(text: &[u8], at: usize) -> usize
+fn utf8_step(text: &[u8], at: usize) -> Option<usize>
     requires { at < length text.now }
-    ensures { Stepped (utf8_from text.now) (length text.now) at result }
+    ensures none { IfNone result (utf8_from text.now at ≡ false) }
+    ensures some { IfSome result (Stepped (utf8_from text.now) (length text.now) at) }
 {
     let many = inner_scalars(true, text, at);
     if many != 0 {
-        return many;
+        return Some(many);
     }
-    match utf8_scalar(text, at) {
-        Decoded::Scalar(_, width) => width,
-        Decoded::Malformed => 0,
-    }
+    let scalar = utf8_scalar(text, at)?;
+    Some(scalar.width)
 }
 
 // Whether a text is UTF-8.
@@ -160,12 +151,12 @@ pub fn is_utf8(text: &[u8]) -> bool
     if all_ascii(true, text) {
         return true;
     }
+    // By an index, since a step is as wide as what it found, and looks back three bytes.
     let mut at = 0;
     while at < text.len() {
-        let width = utf8_step(text, at);
-        if width == 0 {
+        let Some(width) = utf8_step(text, at) else {
             return false;
-        }
+        };
         at += width;
     }
     true
@@ -178,23 +169,22 @@ fn refused(value: u32, edge: bool) -> bool
     unicode_control(value) || (edge && unicode_whitespace(value))
 }
 
-// The same as `utf8_step` for what may stand there in an identity.
+// How many bytes from `at` on are scalars that may stand there in an identity: by blocks, or one scalar; none where there is no such scalar.
 #[tactic(auto, using(crate::proofs::Valid::step_laws))]
-fn id_step(text: &[u8], at: usize) -> usize
+fn id_step(text: &[u8], at: usize) -> Option<usize>
     requires { at < length text.now }
-    ensures { Stepped (id_from text.now) (length text.now) at result }
+    ensures none { IfNone result (id_from text.now at ≡ false) }
+    ensures some { IfSome result (Stepped (id_from text.now) (length text.now) at) }
 {
     let many = inner_scalars(false, text, at);
     if many != 0 {
-        return many;
+        return Some(many);
     }
-    let Decoded::Scalar(value, width) = utf8_scalar(text, at) else {
-        return 0;
-    };
-    if refused(value, (at == 0) | (at + width == text.len())) {
-        return 0;
+    let scalar = utf8_scalar(text, at)?;
+    if refused(scalar.value, (at == 0) | (at + scalar.width == text.len())) {
+        return None;
     }
-    width
+    Some(scalar.width)
 }
 
 // Whether a text is ASCII without controls and with no blank first or last, as most identities are.
@@ -218,20 +208,13 @@ pub fn valid_id(text: &[u8]) -> bool
     if plain(text) {
         return true;
     }
+    // By an index, as in `is_utf8`.
     let mut at = 0;
     while at < text.len() {
-        let width = id_step(text, at);
-        if width == 0 {
+        let Some(width) = id_step(text, at) else {
             return false;
-        }
+        };
         at += width;
     }
     at != 0
-}
-
-// The same, under the name for callers that have many texts.
-pub fn quick_valid_id(text: &[u8]) -> bool
-    ensures { result ≡ valid_id text.now }
-{
-    valid_id(text)
 }

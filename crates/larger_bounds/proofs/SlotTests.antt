@@ -10,14 +10,6 @@ use Rattle.answers.specs.declared.Refusal.{Refusal}
 use Rattle.answers.specs.Checks.{Check, need, run}
 use Rattle.answers.specs.Slots.{is_slot, slots_hold}
 use Rattle.answers.proofs.Slots.{slots-append}
-use Rattle.schema.specs.declared.index.MaybeMode.{MaybeMode}
-use Rattle.schema.specs.declared.index.MaybeMode.TheVariants.{NoMode, Mode}
-use Rattle.schema.specs.declared.index.MaybeScope.{MaybeScope}
-use Rattle.schema.specs.declared.index.MaybeScope.TheVariants.{NoScope, Scope}
-use Rattle.schema.specs.declared.index.MaybeBank.{MaybeBank}
-use Rattle.schema.specs.declared.index.MaybeBank.TheVariants.{NoBank, Bank}
-use Rattle.schema.specs.declared.index.MaybeBinding.{MaybeBinding}
-use Rattle.schema.specs.declared.index.MaybeBinding.TheVariants.{NoBinding, Binding}
 use Rattle.schema.specs.declared.rows.ModeImage.{ModeImage}
 use Rattle.schema.specs.declared.rows.RequiredBindingImage.{RequiredBindingImage}
 use Rattle.range.specs.declared.IndexSpan.{IndexSpan}

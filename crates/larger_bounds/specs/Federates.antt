@@ -1,7 +1,6 @@
 -- Demand 3 for federates, over packs: larger bounds. Assumes nothing.
 use Rattle.std.specs.Prelude.{ℕ, ◌≡◌, List}
-use Rattle.answers.specs.declared.Outcome.TheVariants.{Passed}
-use Rattle.answers.specs.Checks.{first}
+use Rattle.answers.specs.Checks.{first, passed}
 use Rattle.packing.specs.declared.PackKind.TheVariants.{Federate}
 use Rattle.packing.specs.Packing.{packing_checks}
 use Rattle.federate.specs.Answer.{federate_answer}
@@ -9,7 +8,7 @@ use Rattle.larger_bounds.specs.Packs.{DifferInStorage, NoBoundSmaller, SlotAnswe
 
 -- a federate pack that passes the packing rules with the texts lent
 abbrev pub FederatePacked : List ℕ → List ℕ → List ℕ → Type 0
-FederatePacked p batch house = first (packing_checks Federate p batch house) ≡ Passed
+FederatePacked p batch house = first (packing_checks Federate p batch house) ≡ passed
 
 -- any answer other than a slot refusal is the answer with larger bounds: the same enclaves and links, or the same refusal
 abbrev pub FederateAnswerStays : Type 0

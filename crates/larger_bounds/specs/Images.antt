@@ -1,7 +1,6 @@
 -- Demand 3 for enclaves, over images: larger bounds, and the slot checks left out. Assumes nothing.
 use Rattle.std.specs.Prelude.{ℕ, ◌<◌, ◌≤◌, ◌≡◌, ◌↔◌}
-use Rattle.answers.specs.declared.Outcome.TheVariants.{Passed}
-use Rattle.answers.specs.Checks.{first}
+use Rattle.answers.specs.Checks.{first, passed}
 use Rattle.answers.specs.Slots.{SlotRefusal, without_slots}
 use Rattle.checks.specs.Image.{Image}
 use Rattle.scope_checks.specs.Links.{links}
@@ -47,7 +46,7 @@ SlotsBelow m =
 abbrev pub AcceptedExactly : Type 0
 AcceptedExactly =
     (m : Image)
-    → (first (enclave_checks m) ≡ Passed) ↔ ((first (without_slots (enclave_checks m)) ≡ Passed) × SlotsBelow m)
+    → (first (enclave_checks m) ≡ passed) ↔ ((first (without_slots (enclave_checks m)) ≡ passed) × SlotsBelow m)
 
 -- the link count does not depend on the bounds
 abbrev pub SameLinks : Type 0

@@ -1,7 +1,6 @@
 -- Demand 3 for enclaves, over packs: larger bounds, and the slot checks left out. Assumes nothing.
 use Rattle.std.specs.Prelude.{ℕ, ◌/◌, ◌<◌, ◌≤◌, ◌≡◌, ◌↔◌, List, [], ◌∷◌, length, get_or}
-use Rattle.answers.specs.declared.Outcome.TheVariants.{Passed}
-use Rattle.answers.specs.Checks.{first}
+use Rattle.answers.specs.Checks.{first, passed}
 use Rattle.answers.specs.Slots.{without_slots}
 use Rattle.schema.specs.Rows.{byte_of, enclave_at, reactor_at, action_at}
 use Rattle.packing.specs.declared.PackKind.TheVariants.{Enclave}
@@ -12,7 +11,7 @@ use Rattle.enclave.specs.Answer.{unless, pack_image, enclave_answer}
 
 -- an enclave pack that passes the packing rules with the texts lent
 abbrev pub Packed : List ℕ → List ℕ → List ℕ → Type 0
-Packed p batch house = first (packing_checks Enclave p batch house) ≡ Passed
+Packed p batch house = first (packing_checks Enclave p batch house) ≡ passed
 
 -- the state and the action bound of the enclave of record n
 abbrev pub state_bound : List ℕ → ℕ → ℕ

@@ -1,7 +1,8 @@
 -- The checks of list tables' entries, and of the ranges of rows that lead to them: view.rs, the loops after the parent walk. Assumes nothing.
 use Rattle.std.specs.Prelude.{◌+◌, ◌-◌, ℕ, not, List, [], ◌∷◌, ◌++◌, ltb, eqb}
 use Rattle.answers.specs.declared.Refusal.TheVariants.{OwnershipMismatch, DuplicateEntry, EntriesNotSorted}
-use Rattle.answers.specs.Fields as field
+use Rattle.answers.specs.Fields.{row_field}
+use Rattle.answers.specs.declared.field.Field.TheVariants as field
 use Rattle.answers.specs.Checks.{Check, need, run}
 use Rattle.checks.specs.Image.{Image}
 use Rattle.schema.specs.declared.rows.ModeImage.{ModeImage}
@@ -14,7 +15,7 @@ index_checks t f g m i = ref_to m.rows t i f g (m.indexes t i) ∷ []
 
 -- entry i of table t names an action
 unfoldable pub startup_checks : ℕ → Image → ℕ → List Check
-startup_checks t m i = ref_to m.rows t i field.action 3 (m.startups t i) ∷ []
+startup_checks t m i = ref_to m.rows t i field.Action 3 (m.startups t i) ∷ []
 
 -- the triggers of action i, and of port i
 unfoldable pub action_trigger_checks : Image → ℕ → List Check
@@ -28,8 +29,8 @@ port_trigger_checks m i =
 -- entry k of the enabled modes of reaction i, which is the reactor's: the mode is there, and the reactor's too
 unfoldable pub enabled_mode_checks : (ℕ → ℕ) → (ℕ → ModeImage) → (ℕ → ℕ → ℕ) → ℕ → ℕ → ℕ → ℕ → List Check
 enabled_mode_checks rows modes indexes i reactor start k =
-    ref_to rows 12 (entry_index start k) field.mode 6 (indexes 12 (start + k))
-    ∷ need (eqb (modes (indexes 12 (start + k))).reactor.0 reactor) (OwnershipMismatch 5 i field.enabled_modes_reactor)
+    ref_to rows 12 (entry_index start k) field.Mode 6 (indexes 12 (start + k))
+    ∷ need (eqb (modes (indexes 12 (start + k))).reactor.0 reactor) (OwnershipMismatch (row_field 5 i field.EnabledModesReactor))
     ∷ []
 
 unfoldable pub enabled_modes_checks : Image → ℕ → List Check
@@ -52,7 +53,7 @@ level_entry_checks t m i = level_ref_checks m.rows m.reactions t i (m.levels t i
 
 unfoldable pub lifecycle_entry_checks : ℕ → Image → ℕ → List Check
 lifecycle_entry_checks t m i =
-    (ref_to m.rows t i field.action 3 (m.lifecycles t i).action.0 ∷ [])
+    (ref_to m.rows t i field.Action 3 (m.lifecycles t i).action.0 ∷ [])
     ++ level_ref_checks m.rows m.reactions t i (m.lifecycles t i).reaction
 
 -- the shutdown reactions, one list over the whole table
@@ -66,5 +67,5 @@ index_order_checks t i v before =
 
 unfoldable pub shutdown_action_checks : Image → ℕ → List Check
 shutdown_action_checks m i =
-    index_checks 22 field.action 3 m i
+    index_checks 22 field.Action 3 m i
     ++ after_first i (index_order_checks 22 i (m.indexes 22 i) (m.indexes 22 (i - 1)))

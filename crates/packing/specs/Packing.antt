@@ -1,12 +1,10 @@
 -- The packing rules in their order (document 01, "The pack" and "Packing"). Assumes nothing.
-use Rattle.std.specs.Prelude.{ℕ, zero, suc, ◌*◌, ◌/◌, ◌%◌, ◌<◌, ◌≤◌, Bool, ◌&&◌, ◌||◌, ◌≡◌, List, [], ◌∷◌, ltb, leb, eqb, length}
+use Rattle.std.specs.Prelude.{ℕ, zero, suc, ◌*◌, ◌/◌, ◌%◌, ◌<◌, ◌≤◌, Bool, ◌&&◌, ◌||◌, ◌≡◌, List, [], ◌∷◌, ltb, leb, eqb, length, Err}
 use Rattle.identity.specs.declared.IdentityPlace.{IdentityPlace}
 use Rattle.identity.specs.Utf8.{utf8}
 use Rattle.identity.specs.Text.{place_inside, identity_text}
-use Rattle.answers.specs.declared.Outcome.{Outcome}
-use Rattle.answers.specs.declared.Outcome.TheVariants.{Passed, Refused}
 use Rattle.answers.specs.declared.Refusal.TheVariants.{Length, TextTooLong, TableOutOfPlace, StrayByte, IdentityOutside, NotUtf8}
-use Rattle.answers.specs.Checks.{Check, need, run}
+use Rattle.answers.specs.Checks.{Check, need, run, Outcome, passed}
 use Rattle.schema.specs.Layout.{layouts}
 use Rattle.schema.specs.Rows.{byte_of, bit_of, field, place}
 use Rattle.packing.specs.declared.PackAnswer.{PackAnswer}
@@ -66,8 +64,8 @@ packing_checks kind p batch house =
 
 -- the rules' answer as an outcome; the pack that passes is the one that was lent
 abbrev pub pack_outcome : PackAnswer → Outcome
-pack_outcome (answer.Pack pack) = Passed
-pack_outcome (answer.Refused r) = Refused r
+pack_outcome (answer.Pack pack) = passed
+pack_outcome (answer.Refused r) = Err r
 
 abbrev pub IsLent : List ℕ → PackAnswer → Type 0
 IsLent p (answer.Pack pack) = pack.bytes.now ≡ p

@@ -1,7 +1,5 @@
 -- Where each table of an enclave begins. Assumes nothing.
-use Rattle.std.specs.Prelude.{ℕ, zero, suc, ◌+◌, Bool, not, ◌||◌, cond, List, [], ◌∷◌, ◌++◌, ltb, leb}
-use Rattle.answers.specs.declared.Outcome.{Outcome}
-use Rattle.answers.specs.declared.Outcome.TheVariants.{Passed, Refused}
+use Rattle.std.specs.Prelude.{ℕ, zero, suc, ◌+◌, Bool, not, ◌||◌, cond, List, [], ◌∷◌, ◌++◌, ltb, leb, Ok, Err}
 use Rattle.schema.specs.Rows.{byte_of}
 use Rattle.schema.specs.Records.{records_of}
 
@@ -29,5 +27,5 @@ table_starts p rows = starts_below p rows 26
 
 -- the starts after the packing rules of an enclave's pack p: its own where it passes, else s, as they were
 abbrev pub starts_after : Outcome → List ℕ → List ℕ → List ℕ
-starts_after Passed p s = table_starts p 1
-starts_after (Refused r) p s = s
+starts_after (Ok u) p s = table_starts p 1
+starts_after (Err r) p s = s

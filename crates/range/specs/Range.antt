@@ -1,19 +1,13 @@
 -- Where a range or a span of `len` entries from `start` ends, and whether it holds a key (document 01, module 1). Assumes nothing.
-use Rattle.std.specs.Prelude.{ℕ, ◌+◌, ◌-◌, ◌^◌, Bool, ◌&&◌, cond, ltb, leb}
-use Rattle.range.specs.declared.CheckedEnd.{CheckedEnd}
-use Rattle.range.specs.declared.CheckedEnd.TheVariants.{End, NoEnd}
+use Rattle.std.specs.Prelude.{ℕ, ◌+◌, ◌-◌, ◌^◌, Bool, ◌&&◌, cond, ltb, leb, Option, Some, None, unwrap_or}
 
 -- an end past 64 bits is no end
-unfoldable pub checked_end : ℕ → ℕ → CheckedEnd
-checked_end start len = cond (ltb (start + len) (2 ^ 64)) (End (start + len)) NoEnd
+unfoldable pub checked_end : ℕ → ℕ → Option ℕ
+checked_end start len = cond (ltb (start + len) (2 ^ 64)) (Some (start + len)) None
 
 -- the end, or the largest 64-bit number where there is none
-abbrev pub end_or : CheckedEnd → ℕ
-end_or (End e) = e
-end_or NoEnd = 2 ^ 64 - 1
-
 unfoldable pub saturating_end : ℕ → ℕ → ℕ
-saturating_end start len = end_or (checked_end start len)
+saturating_end start len = unwrap_or (checked_end start len) (2 ^ 64 - 1)
 
 -- a key is at least the start and below the end
 unfoldable pub contains : ℕ → ℕ → ℕ → Bool

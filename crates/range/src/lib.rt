@@ -4,88 +4,76 @@
 ghost use Rattle.std.specs.Prelude.{◌≡◌};
 ghost use Rattle.range.specs.Range.{checked_end, saturating_end, contains};
 
-// The exclusive end of a range or a span. An end past 64 bits is no end.
-#[derive(Clone, Copy)]
-pub enum CheckedEnd {
-    End(u64),
-    NoEnd,
-}
-
 // Consecutive entries of a list table.
-#[derive(Clone, Copy)]
+#[derive(Clone, Copy, Debug, PartialEq, Eq)]
 pub struct SliceRange {
     pub start: u32,
     pub len: u32,
 }
 
 // Consecutive keys of a dense table.
-#[derive(Clone, Copy)]
+#[derive(Clone, Copy, Debug, PartialEq, Eq)]
 pub struct IndexSpan {
     pub start: u64,
     pub len: u64,
 }
 
 // A span of modes, and one of enclaves: neither stands where the other belongs.
-#[derive(Clone, Copy)]
+// Each is one type for one kind of key: a type parameter that names the kind would be no plainer.
+#[derive(Clone, Copy, Debug, PartialEq, Eq)]
 pub struct ModeSpan(pub IndexSpan);
 
-#[derive(Clone, Copy)]
+#[derive(Clone, Copy, Debug, PartialEq, Eq)]
 pub struct EnclaveSpan(pub IndexSpan);
 
+// A range as a span: its start and its length, in 64 bits.
+impl From<SliceRange> for IndexSpan {
+    ghost from_gives = { λ range span. (span.start ≡ range.start) × (span.len ≡ range.len) };
+
+    fn from(range: SliceRange) -> IndexSpan {
+        IndexSpan {
+            start: u64::from(range.start),
+            len: u64::from(range.len),
+        }
+    }
+}
+
 impl SliceRange {
-    pub fn checked_end(self) -> CheckedEnd
+    // The exclusive end.
+    pub fn checked_end(self) -> Option<u64>
         ensures { result ≡ checked_end self.start self.len }
     {
-        self.span().checked_end()
+        IndexSpan::from(self).checked_end()
     }
 
     // Two 32-bit numbers always have an end: it is their sum.
     pub fn saturating_end(self) -> u64
         ensures { result ≡ saturating_end self.start self.len }
     {
-        self.start as u64 + self.len as u64
-    }
-
-    // The same start and length, as a span has them.
-    pub fn span(self) -> IndexSpan
-        ensures { (result.start ≡ self.start) × (result.len ≡ self.len) }
-    {
-        IndexSpan {
-            start: self.start as u64,
-            len: self.len as u64,
-        }
+        u64::from(self.start) + u64::from(self.len)
     }
 }
 
 impl IndexSpan {
-    pub fn checked_end(self) -> CheckedEnd
+    // The exclusive end; none past 64 bits.
+    pub fn checked_end(self) -> Option<u64>
         ensures { result ≡ checked_end self.start self.len }
     {
-        let room = 0xFFFF_FFFF_FFFF_FFFF - self.start;
-        if self.len <= room {
-            return CheckedEnd::End(self.start + self.len);
-        }
-        CheckedEnd::NoEnd
+        self.start.checked_add(self.len)
     }
 
     // The end, or the largest 64-bit number where there is none.
     pub fn saturating_end(self) -> u64
         ensures { result ≡ saturating_end self.start self.len }
     {
-        let CheckedEnd::End(end) = self.checked_end() else {
-            return 0xFFFF_FFFF_FFFF_FFFF;
-        };
-        end
+        self.start.saturating_add(self.len)
     }
 
     // Whether a key lies in the span, by its saturating end.
     pub fn contains(self, key: u32) -> bool
         ensures { result ≡ contains self.start self.len key }
     {
-        let index = key as u64;
-        if index < self.start {
-            return false;
-        }
-        index < self.saturating_end()
+        let index = u64::from(key);
+        self.start <= index && index < self.saturating_end()
     }
 }

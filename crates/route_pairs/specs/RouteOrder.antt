@@ -8,8 +8,7 @@ use Rattle.identity.specs.declared.ByteOrder.{ByteOrder}
 use Rattle.identity.specs.declared.ByteOrder.TheVariants.{Less, Equal, Greater}
 use Rattle.identity.specs.Text.{identity_text}
 use Rattle.identity.specs.Order.{compared}
-use Rattle.answers.specs.declared.Outcome.TheVariants.{Passed}
-use Rattle.answers.specs.Checks.{Check, first}
+use Rattle.answers.specs.Checks.{Check, first, passed}
 use Rattle.schema.specs.declared.rows.RouteImage.{RouteImage}
 use Rattle.schema.specs.Rows.{route_at}
 use Rattle.schema.specs.Records.{records_of, is_of, direction_number}
@@ -72,8 +71,8 @@ module _ (text : IdentityPlace → List ℕ) (p rows : List ℕ) where
 -- of n lists of checks the i-th is the first that does not pass; all pass where i is n
 pub record FirstFault (f : ℕ → List Check) (i n : ℕ) : Type 0 where
   pub within : i ≤ n
-  pub passes : (k : ℕ) → k < i → first (f k) ≡ Passed
-  pub stops : i < n → first (f i) ≡ Passed → ⊥
+  pub passes : (k : ℕ) → k < i → first (f k) ≡ passed
+  pub stops : i < n → first (f i) ≡ passed → ⊥
 
 -- record i is the first route at fault, or the number of records where none is
 abbrev pub FirstRouteFault : Routes → ℕ → Type 0

@@ -3,7 +3,7 @@ use Rattle.std.specs.Prelude.{ℕ, Bool, not, ◌&&◌, cond, List, [], ◌∷�
 use Rattle.identity.specs.declared.IdentityPlace.{IdentityPlace}
 use Rattle.identity.specs.Order.{compared}
 use Rattle.answers.specs.declared.Refusal.TheVariants.{DuplicateRouteHalf, RoutePairMismatch}
-use Rattle.answers.specs.Fields as field
+use Rattle.answers.specs.declared.field.Field.TheVariants as field
 use Rattle.answers.specs.Checks.{Check, need}
 use Rattle.schema.specs.declared.rows.RouteImage.{RouteImage}
 use Rattle.schema.specs.Rows.{route_at}
@@ -33,8 +33,8 @@ abbrev pub pair_checks : (IdentityPlace → List ℕ) → List ℕ → RouteImag
 pair_checks text p r =
     need (leb (halves text p r Inbound) 1) (DuplicateRouteHalf r.boundary 0)
     ∷ need (leb (halves text p r Outbound) 1) (DuplicateRouteHalf r.boundary 1)
-    ∷ need (eqb (halves text p r OtherDomain) 0) (RoutePairMismatch r.boundary field.timing_domain)
-    ∷ need (eqb (halves text p r OtherDelay) 0) (RoutePairMismatch r.boundary field.delay_nanos)
+    ∷ need (eqb (halves text p r OtherDomain) 0) (RoutePairMismatch r.boundary field.TimingDomain)
+    ∷ need (eqb (halves text p r OtherDelay) 0) (RoutePairMismatch r.boundary field.DelayNanos)
     ∷ []
 
 -- record n, where it is a route's

@@ -2,10 +2,9 @@
 use Rattle.std.specs.Prelude.{ℕ, Bool, false, List, [], ◌∷◌, eqb}
 use Rattle.range.specs.Range.{contains}
 use Rattle.answers.specs.declared.Refusal.TheVariants.{OwnershipMismatch}
-use Rattle.answers.specs.Fields as field
+use Rattle.answers.specs.Fields.{row_field}
+use Rattle.answers.specs.declared.field.Field.TheVariants as field
 use Rattle.answers.specs.Checks.{Check, need}
-use Rattle.schema.specs.declared.index.MaybeMode.{MaybeMode}
-use Rattle.schema.specs.declared.index.MaybeMode.TheVariants.{NoMode, Mode}
 use Rattle.schema.specs.declared.rows.ModeImage.{ModeImage}
 use Rattle.schema.specs.declared.rows.ReactorImage.{ReactorImage}
 use Rattle.schema.specs.declared.rows.ScopeImage.{ScopeImage}
@@ -19,15 +18,15 @@ is_mode i (Mode m) = eqb m.0 i
 -- the scope is the mode's reactor's, and the mode's own; the reactor's span holds the mode
 unfoldable pub mode_owner_checks : ℕ → ModeImage → ReactorImage → ScopeImage → List Check
 mode_owner_checks i row reactor scope =
-    need (eqb scope.reactor.0 row.reactor.0) (OwnershipMismatch 6 i field.scope_reactor)
-    ∷ need (is_mode i scope.mode) (OwnershipMismatch 6 i field.scope_mode)
-    ∷ need (contains reactor.modes.0.start reactor.modes.0.len i) (OwnershipMismatch 6 i field.reactor_modes)
+    need (eqb scope.reactor.0 row.reactor.0) (OwnershipMismatch (row_field 6 i field.ScopeReactor))
+    ∷ need (is_mode i scope.mode) (OwnershipMismatch (row_field 6 i field.ScopeMode))
+    ∷ need (contains reactor.modes.0.start reactor.modes.0.len i) (OwnershipMismatch (row_field 6 i field.ReactorModes))
     ∷ []
 
 unfoldable pub mode_row : Image → ℕ → ModeImage → List Check
 mode_row m i row =
-    ref_to m.rows 6 i field.reactor 2 row.reactor.0
-    ∷ ref_to m.rows 6 i field.scope 7 row.scope.0
+    ref_to m.rows 6 i field.Reactor 2 row.reactor.0
+    ∷ ref_to m.rows 6 i field.Scope 7 row.scope.0
     ∷ mode_owner_checks i row (m.reactors row.reactor.0) (m.scopes row.scope.0)
 
 unfoldable pub mode_checks : Image → ℕ → List Check

@@ -1,10 +1,9 @@
 -- The checks of a row of reactions: view.rs, the fourth row loop. Assumes nothing.
 use Rattle.std.specs.Prelude.{ℕ, List, [], ◌∷◌, ◌++◌, eqb}
 use Rattle.answers.specs.declared.Refusal.TheVariants.{OwnershipMismatch}
-use Rattle.answers.specs.Fields as field
+use Rattle.answers.specs.Fields.{row_field}
+use Rattle.answers.specs.declared.field.Field.TheVariants as field
 use Rattle.answers.specs.Checks.{Check, need}
-use Rattle.schema.specs.declared.index.MaybeMode.{MaybeMode}
-use Rattle.schema.specs.declared.index.MaybeMode.TheVariants.{NoMode, Mode}
 use Rattle.schema.specs.declared.index.BindingKind.TheVariants.{Reaction}
 use Rattle.schema.specs.declared.rows.ModeImage.{ModeImage}
 use Rattle.checks.specs.Image.{Image, ReactionPart}
@@ -16,17 +15,17 @@ use Rattle.row_checks.specs.Bindings.{binding_checks}
 unfoldable pub effect_checks : (ℕ → ℕ) → (ℕ → ModeImage) → ℕ → ℕ → MaybeMode → List Check
 effect_checks rows modes i reactor NoMode = []
 effect_checks rows modes i reactor (Mode m) =
-    ref_to rows 5 i field.mode_effect_target 6 m.0
-    ∷ need (eqb (modes m.0).reactor.0 reactor) (OwnershipMismatch 5 i field.mode_effect_target_reactor)
+    ref_to rows 5 i field.ModeEffectTarget 6 m.0
+    ∷ need (eqb (modes m.0).reactor.0 reactor) (OwnershipMismatch (row_field 5 i field.ModeEffectTargetReactor))
     ∷ []
 
 -- reactor, scope and binding are there; the scope is the reactor's
 unfoldable pub reaction_owner_checks : Image → ℕ → ReactionPart → List Check
 reaction_owner_checks m i row =
-    (ref_to m.rows 5 i field.reactor 2 row.reactor ∷ [])
-    ++ ((ref_to m.rows 5 i field.scope 7 row.scope ∷ [])
-    ++ (binding_checks m.rows m.bindings 5 i field.binding Reaction row.binding
-    ++ (need (eqb (m.scopes row.scope).reactor.0 row.reactor) (OwnershipMismatch 5 i field.scope_reactor) ∷ [])))
+    (ref_to m.rows 5 i field.Reactor 2 row.reactor ∷ [])
+    ++ ((ref_to m.rows 5 i field.Scope 7 row.scope ∷ [])
+    ++ (binding_checks m.rows m.bindings 5 i field.Binding Reaction row.binding
+    ++ (need (eqb (m.scopes row.scope).reactor.0 row.reactor) (OwnershipMismatch (row_field 5 i field.ScopeReactor)) ∷ [])))
 
 -- where the four ranges of a row end
 abbrev pub reaction_ends_of : ReactionPart → ReactionEnds
@@ -54,10 +53,10 @@ reaction_ends_before reactions i =
 -- the four ranges, each against the end of the row before
 unfoldable pub reaction_range_checks : (ℕ → ℕ) → ℕ → ReactionPart → ReactionEnds → List Check
 reaction_range_checks rows i row previous =
-    range_checks rows 5 i field.use_ports 9 row.uses previous.uses
-    ++ (range_checks rows 5 i field.effect_ports 10 row.effects previous.effects
-    ++ (range_checks rows 5 i field.actions 11 row.actions previous.actions
-    ++ range_checks rows 5 i field.enabled_modes 12 row.enabled previous.enabled))
+    range_checks rows 5 i field.UsePorts 9 row.uses previous.uses
+    ++ (range_checks rows 5 i field.EffectPorts 10 row.effects previous.effects
+    ++ (range_checks rows 5 i field.Actions 11 row.actions previous.actions
+    ++ range_checks rows 5 i field.EnabledModes 12 row.enabled previous.enabled))
 
 unfoldable pub reaction_row : Image → ℕ → ReactionPart → ReactionEnds → List Check
 reaction_row m i row previous =

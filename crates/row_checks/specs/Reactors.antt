@@ -3,12 +3,9 @@ use Rattle.std.specs.Prelude.{ℕ, Bool, true, false, ◌&&◌, List, [], ◌∷
 use Rattle.range.specs.declared.IndexSpan.{IndexSpan}
 use Rattle.range.specs.Range.{contains}
 use Rattle.answers.specs.declared.Refusal.TheVariants.{OwnershipMismatch, InvalidBankInfo, StorageBoundExceeded}
-use Rattle.answers.specs.Fields as field
+use Rattle.answers.specs.Fields.{row_field}
+use Rattle.answers.specs.declared.field.Field.TheVariants as field
 use Rattle.answers.specs.Checks.{Check, need}
-use Rattle.schema.specs.declared.index.MaybeMode.{MaybeMode}
-use Rattle.schema.specs.declared.index.MaybeMode.TheVariants.{NoMode, Mode}
-use Rattle.schema.specs.declared.index.MaybeBank.{MaybeBank}
-use Rattle.schema.specs.declared.index.MaybeBank.TheVariants.{NoBank, Bank}
 use Rattle.schema.specs.declared.index.BindingKind.TheVariants.{StateInitializer}
 use Rattle.schema.specs.declared.rows.ReactorImage.{ReactorImage}
 use Rattle.schema.specs.declared.rows.ScopeImage.{ScopeImage}
@@ -27,16 +24,16 @@ is_no_mode (Mode m) = false
 -- the root scope is the reactor's own, and no mode's
 unfoldable pub root_scope_checks : (ℕ → ℕ) → (ℕ → ScopeImage) → ℕ → ℕ → List Check
 root_scope_checks rows scopes i v =
-    ref_to rows 2 i field.root_scope 7 v
-    ∷ need (eqb (scopes v).reactor.0 i && is_no_mode (scopes v).mode) (OwnershipMismatch 2 i field.root_scope)
+    ref_to rows 2 i field.RootScope 7 v
+    ∷ need (eqb (scopes v).reactor.0 i && is_no_mode (scopes v).mode) (OwnershipMismatch (row_field 2 i field.RootScope))
     ∷ []
 
 -- the initial mode is there, and one of the reactor's
 unfoldable pub initial_mode_checks : (ℕ → ℕ) → ℕ → IndexSpan → MaybeMode → List Check
 initial_mode_checks rows i span NoMode = []
 initial_mode_checks rows i span (Mode m) =
-    ref_to rows 2 i field.initial_mode 6 m.0
-    ∷ need (contains span.start span.len m.0) (OwnershipMismatch 2 i field.initial_mode)
+    ref_to rows 2 i field.InitialMode 6 m.0
+    ∷ need (contains span.start span.len m.0) (OwnershipMismatch (row_field 2 i field.InitialMode))
     ∷ []
 
 unfoldable pub bank_checks : ℕ → MaybeBank → List Check
@@ -45,10 +42,10 @@ bank_checks i (Bank b) = need (ltb b.index b.total) (InvalidBankInfo i b.index b
 
 unfoldable pub reactor_row : Image → ℕ → ReactorImage → ℕ → List Check
 reactor_row m i row previous =
-    binding_checks m.rows m.bindings 2 i field.state_binding StateInitializer row.state_binding.0
+    binding_checks m.rows m.bindings 2 i field.StateBinding StateInitializer row.state_binding.0
     ++ (slot_checks 2 m.state_slots i row.state_slot
     ++ (root_scope_checks m.rows m.scopes i row.root_scope.0
-    ++ (span_checks m.rows 2 i field.modes 6 row.modes.0.start row.modes.0.len previous
+    ++ (span_checks m.rows 2 i field.Modes 6 row.modes.0.start row.modes.0.len previous
     ++ (initial_mode_checks m.rows i row.modes.0 row.initial_mode
     ++ bank_checks i row.bank))))
 

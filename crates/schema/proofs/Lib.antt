@@ -1,4 +1,2 @@
 pub mod Counts
-pub mod Past
 pub mod Tables
-pub mod Words

@@ -11,5 +11,5 @@ rises_to s up (suc k) t e =
 
 pub row_inside : (s : List ℕ) (t i n : ℕ) → IsRising s → t < tables → n ≡ start_of s t + i → i < rows_of s t → n < start_of s tables
 row_inside s t i n up known e h =
-    let rest : start_of s (t + 1) ≤ start_of s tables = rises_to s up (24 - t) (t + 1) (omega arith) in
+    let rest : start_of s (t + 1) ≤ start_of s tables = rises_to s up (tables - (t + 1)) (t + 1) (omega arith) in
     omega (arith, rest)

@@ -1,5 +1,9 @@
+pub mod Bytes
 pub mod Number
 pub mod Layout
 pub mod Rows
+pub mod RowLaws
+pub mod Past
 pub mod Tables
 pub mod Records
+pub mod Keys

@@ -4,7 +4,7 @@ use Rattle.schema.specs.declared.index.RouteDirection.{RouteDirection}
 use Rattle.schema.specs.declared.index.RouteDirection.TheVariants.{Inbound, Outbound}
 use Rattle.schema.specs.declared.index.TimingDomain.{TimingDomain}
 use Rattle.schema.specs.declared.index.TimingDomain.TheVariants.{Logical, Physical}
-use Rattle.schema.specs.Rows.{byte_of}
+use Rattle.schema.specs.Bytes.{byte_of}
 
 -- the records of a pack, at most as many as the pack's limit has
 abbrev pub records_of : List ℕ → ℕ

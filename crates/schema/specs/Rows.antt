@@ -1,24 +1,13 @@
 -- The rows of the tables: record n of a pack is its 64 bytes from 64 n, read by the layout of its table. Assumes nothing.
 use Rattle.std.specs.Prelude.{ℕ, ◌+◌, ◌*◌, ◌/◌, ◌%◌, ◌^◌, ◌≡◌, Bool, cond, List, get_or, length, eqb}
+use Rattle.std.specs.Bool.{then_some}
 use Rattle.identity.specs.declared.IdentityPlace.{IdentityPlace}
 use Rattle.range.specs.declared.SliceRange.{SliceRange}
 use Rattle.range.specs.declared.IndexSpan.{IndexSpan}
-use Rattle.schema.specs.declared.index.MaybeMode.{MaybeMode}
-use Rattle.schema.specs.declared.index.MaybeMode.TheVariants.{NoMode, Mode}
-use Rattle.schema.specs.declared.index.MaybeScope.{MaybeScope}
-use Rattle.schema.specs.declared.index.MaybeScope.TheVariants.{NoScope, Scope}
-use Rattle.schema.specs.declared.index.MaybeBinding.{MaybeBinding}
-use Rattle.schema.specs.declared.index.MaybeBinding.TheVariants.{NoBinding, Binding}
-use Rattle.schema.specs.declared.index.MaybeBank.{MaybeBank}
-use Rattle.schema.specs.declared.index.MaybeBank.TheVariants.{NoBank, Bank}
 use Rattle.schema.specs.declared.index.Transition.{Transition}
 use Rattle.schema.specs.declared.index.Transition.TheVariants.{Reset, History}
-use Rattle.schema.specs.declared.index.MaybeModeEffect.{MaybeModeEffect}
-use Rattle.schema.specs.declared.index.MaybeModeEffect.TheVariants.{NoEffect, Effect}
 use Rattle.schema.specs.declared.index.TimingDomain.{TimingDomain}
 use Rattle.schema.specs.declared.index.TimingDomain.TheVariants.{Logical, Physical}
-use Rattle.schema.specs.declared.index.MaybePeriod.{MaybePeriod}
-use Rattle.schema.specs.declared.index.MaybePeriod.TheVariants.{NoPeriod, Period}
 use Rattle.schema.specs.declared.index.ActionTiming.{ActionTiming}
 use Rattle.schema.specs.declared.index.ActionTiming.TheVariants.{Standard, Timer, Shutdown}
 use Rattle.schema.specs.declared.index.RouteDirection.{RouteDirection}
@@ -35,24 +24,13 @@ use Rattle.schema.specs.declared.rows.ModeImage.{ModeImage}
 use Rattle.schema.specs.declared.rows.ScopeImage.{ScopeImage}
 use Rattle.schema.specs.declared.rows.RouteImage.{RouteImage}
 use Rattle.schema.specs.declared.rows.RequiredBindingImage.{RequiredBindingImage}
-use Rattle.schema.specs.declared.lists.LevelReactionImage.{LevelReactionImage}
-use Rattle.schema.specs.declared.lists.TimerStartupImage.{TimerStartupImage}
-use Rattle.schema.specs.declared.lists.LifecycleReactionImage.{LifecycleReactionImage}
+use Rattle.schema.specs.declared.entries.LevelReactionImage.{LevelReactionImage}
+use Rattle.schema.specs.declared.entries.TimerStartupImage.{TimerStartupImage}
+use Rattle.schema.specs.declared.entries.LifecycleReactionImage.{LifecycleReactionImage}
+use Rattle.schema.specs.Bytes.{byte_of, bit_of}
 use Rattle.schema.specs.Number.{number}
 use Rattle.schema.specs.Layout as layout
 use Rattle.schema.specs.Layout.{Layout, bytes, offset, field_at}
-
--- a pack of whole records
-abbrev pub Whole : List ℕ → Type 0
-Whole p = length p % 64 ≡ 0
-
--- byte j of record n
-abbrev pub byte_of : List ℕ → ℕ → ℕ → ℕ
-byte_of p n j = get_or p (n * 64 + j) 0
-
--- bit k of a byte, the lowest first
-abbrev pub bit_of : ℕ → ℕ → Bool
-bit_of b k = eqb (b / 2 ^ k % 2) 1
 
 -- field k of record n
 abbrev pub field : List ℕ → ℕ → Layout → ℕ → ℕ
@@ -68,35 +46,15 @@ span f k = record { start = f k; len = f (k + 1) }
 abbrev pub place : Bool → (ℕ → ℕ) → ℕ → IdentityPlace
 place house f k = record { house = house; start = f k; len = f (k + 1) }
 
--- an optional field, by its presence bit
-abbrev pub maybe_mode : Bool → ℕ → MaybeMode
-maybe_mode present m = cond present (Mode (record { 0 = m })) NoMode
-
-abbrev pub maybe_scope : Bool → ℕ → MaybeScope
-maybe_scope present s = cond present (Scope (record { 0 = s })) NoScope
-
-abbrev pub maybe_binding : Bool → ℕ → MaybeBinding
-maybe_binding present b = cond present (Binding (record { 0 = b })) NoBinding
-
-abbrev pub maybe_bank : Bool → ℕ → ℕ → MaybeBank
-maybe_bank present i t = cond present (Bank (record { index = i; total = t })) NoBank
-
-abbrev pub maybe_period : Bool → ℕ → MaybePeriod
-maybe_period present d = cond present (Period d) NoPeriod
-
+-- kinds, by byte 2; then_some b x is x where the bit b is 1, and none where it is 0
 abbrev pub transition_of : ℕ → Transition
 transition_of k = cond (eqb k 0) Reset History
 
-abbrev pub maybe_effect : Bool → ℕ → ℕ → MaybeModeEffect
-maybe_effect present k m =
-    cond present (Effect (record { transition = transition_of k; target = record { 0 = m } })) NoEffect
-
--- kinds, by byte 2
 abbrev pub timing_of : ℕ → Bool → ℕ → ActionTiming
 timing_of k present d =
     cond (eqb k 0) (Standard Logical d)
     (cond (eqb k 1) (Standard Physical d)
-    (cond (eqb k 2) (Timer (maybe_period present d)) Shutdown))
+    (cond (eqb k 2) (Timer (then_some present d)) Shutdown))
 
 abbrev pub kind_of : ℕ → BindingKind
 kind_of k =
@@ -144,8 +102,8 @@ reactor_of f b k =
       state_slot = f 1;
       root_scope = record { 0 = f 2 };
       modes = record { 0 = span f 3 };
-      initial_mode = maybe_mode (bit_of b 0) (f 5);
-      bank = maybe_bank (bit_of b 1) (f 6) (f 7);
+      initial_mode = then_some (bit_of b 0) (record { 0 = f 5 });
+      bank = then_some (bit_of b 1) (record { index = f 6; total = f 7 });
     }
 
 -- table 3
@@ -154,7 +112,7 @@ action_of f b k =
     record {
       scope = record { 0 = f 0 };
       storage_slot = f 1;
-      binding = maybe_binding (bit_of b 0) (f 2);
+      binding = then_some (bit_of b 0) (record { 0 = f 2 });
       timing = timing_of k (bit_of b 1) (f 3);
       triggers = range f 4;
     }
@@ -181,7 +139,7 @@ reaction_of f b k =
       effect_ports = range f 6;
       actions = range f 8;
       enabled_modes = range f 10;
-      mode_effect = maybe_effect (bit_of b 1) k (f 12);
+      mode_effect = then_some (bit_of b 1) (record { transition = transition_of k; target = record { 0 = f 12 } });
     }
 
 -- table 6
@@ -196,9 +154,9 @@ mode_of f b k =
 abbrev pub scope_of : (ℕ → ℕ) → ℕ → ℕ → ScopeImage
 scope_of f b k =
     record {
-      parent = maybe_scope (bit_of b 0) (f 0);
+      parent = then_some (bit_of b 0) (record { 0 = f 0 });
       reactor = record { 0 = f 1 };
-      mode = maybe_mode (bit_of b 1) (f 2);
+      mode = then_some (bit_of b 1) (record { 0 = f 2 });
       descendants = range f 3;
       logical_actions = range f 5;
       timer_startups = range f 7;

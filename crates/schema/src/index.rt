@@ -1,56 +1,33 @@
-// The index types, one for each dense table, and the small enums of optional fields and kinds.
-ghost use Rattle.std.specs.Prelude.{◌≡◌};
-ghost use Rattle.schema.specs.Records.{direction_number, domain_number};
+// The index types, one for each dense table, and the kinds that stand in a row.
+ghost use Rattle.std.specs.Prelude.{◌≡◌, ◌<◌, ◌^◌};
+ghost use Rattle.schema.specs.Rows.{index_at, transition_of, timing_of, kind_of, direction_of, domain_of};
 
-#[derive(Clone, Copy)]
+// A tuple struct for each table, since a key of one table is none of another's.
+#[derive(Clone, Copy, PartialEq, Eq, PartialOrd, Ord)]
 pub struct ReactorIndex(pub u32);
 
-#[derive(Clone, Copy)]
+#[derive(Clone, Copy, PartialEq, Eq, PartialOrd, Ord)]
 pub struct ScopeIndex(pub u32);
 
-#[derive(Clone, Copy)]
+#[derive(Clone, Copy, PartialEq, Eq, PartialOrd, Ord)]
 pub struct ModeIndex(pub u32);
 
-#[derive(Clone, Copy)]
+#[derive(Clone, Copy, PartialEq, Eq, PartialOrd, Ord)]
 pub struct ActionIndex(pub u32);
 
-#[derive(Clone, Copy)]
+#[derive(Clone, Copy, PartialEq, Eq, PartialOrd, Ord)]
 pub struct PortIndex(pub u32);
 
-#[derive(Clone, Copy)]
+#[derive(Clone, Copy, PartialEq, Eq, PartialOrd, Ord)]
 pub struct ReactionIndex(pub u32);
 
-#[derive(Clone, Copy)]
+#[derive(Clone, Copy, PartialEq, Eq, PartialOrd, Ord)]
 pub struct BindingSlotIndex(pub u32);
-
-#[derive(Clone, Copy)]
-pub enum MaybeMode {
-    NoMode,
-    Mode(ModeIndex),
-}
-
-#[derive(Clone, Copy)]
-pub enum MaybeScope {
-    NoScope,
-    Scope(ScopeIndex),
-}
-
-#[derive(Clone, Copy)]
-pub enum MaybeBinding {
-    NoBinding,
-    Binding(BindingSlotIndex),
-}
 
 #[derive(Clone, Copy)]
 pub struct BankInfoImage {
     pub index: u32,
     pub total: u32,
-}
-
-#[derive(Clone, Copy)]
-pub enum MaybeBank {
-    NoBank,
-    Bank(BankInfoImage),
 }
 
 // How a reaction's mode effect enters its target.
@@ -66,22 +43,10 @@ pub struct ModeEffect {
     pub target: ModeIndex,
 }
 
-#[derive(Clone, Copy)]
-pub enum MaybeModeEffect {
-    NoEffect,
-    Effect(ModeEffect),
-}
-
-#[derive(Clone, Copy)]
+#[derive(Clone, Copy, PartialEq, Eq)]
 pub enum TimingDomain {
     Logical,
     Physical,
-}
-
-#[derive(Clone, Copy)]
-pub enum MaybePeriod {
-    NoPeriod,
-    Period(u64),
 }
 
 #[derive(Clone, Copy)]
@@ -91,18 +56,18 @@ pub enum ActionTiming {
         min_delay_nanos: u64,
     },
     Timer {
-        period_nanos: MaybePeriod,
+        period_nanos: Option<u64>,
     },
     Shutdown,
 }
 
-#[derive(Clone, Copy)]
+#[derive(Clone, Copy, Debug, PartialEq, Eq)]
 pub enum RouteDirection {
     Inbound,
     Outbound,
 }
 
-#[derive(Clone, Copy)]
+#[derive(Clone, Copy, PartialEq, Eq)]
 pub enum BindingKind {
     StateInitializer,
     Reaction,
@@ -110,25 +75,75 @@ pub enum BindingKind {
     Action,
 }
 
-impl RouteDirection {
-    // Document 01's number of the direction.
-    pub fn number(self) -> u8
-        ensures { result ≡ direction_number self }
+// Kinds as byte 2 has them. The packing rules let no other number by; here each number above the last stands for it.
+impl From<u8> for Transition {
+    ghost from_gives = { λ k r. r ≡ transition_of k };
+
+    fn from(kind: u8) -> Transition {
+        match kind {
+            0 => Transition::Reset,
+            _ => Transition::History,
+        }
+    }
+}
+
+impl From<u8> for BindingKind {
+    ghost from_gives = { λ k r. r ≡ kind_of k };
+
+    fn from(kind: u8) -> BindingKind {
+        match kind {
+            0 => BindingKind::StateInitializer,
+            1 => BindingKind::Reaction,
+            2 => BindingKind::Port,
+            _ => BindingKind::Action,
+        }
+    }
+}
+
+impl ActionTiming {
+    // By byte 2, the period bit, and the minimum delay or the period.
+    pub fn of(kind: u8, period: bool, nanos: u64) -> ActionTiming
+        ensures { result ≡ timing_of kind period nanos }
     {
-        match self {
-            RouteDirection::Inbound => 0,
-            RouteDirection::Outbound => 1,
+        match kind {
+            0 => ActionTiming::Standard {
+                domain: TimingDomain::Logical,
+                min_delay_nanos: nanos,
+            },
+            1 => ActionTiming::Standard {
+                domain: TimingDomain::Physical,
+                min_delay_nanos: nanos,
+            },
+            2 => ActionTiming::Timer {
+                period_nanos: period.then_some(nanos),
+            },
+            _ => ActionTiming::Shutdown,
+        }
+    }
+}
+
+impl RouteDirection {
+    // By the outbound bit.
+    pub fn of(outbound: bool) -> RouteDirection
+        ensures { result ≡ direction_of outbound }
+    {
+        if outbound {
+            RouteDirection::Outbound
+        } else {
+            RouteDirection::Inbound
         }
     }
 }
 
 impl TimingDomain {
-    pub fn number(self) -> u8
-        ensures { result ≡ domain_number self }
+    // By the physical bit.
+    pub fn of(physical: bool) -> TimingDomain
+        ensures { result ≡ domain_of physical }
     {
-        match self {
-            TimingDomain::Logical => 0,
-            TimingDomain::Physical => 1,
+        if physical {
+            TimingDomain::Physical
+        } else {
+            TimingDomain::Logical
         }
     }
 }

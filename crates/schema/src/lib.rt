@@ -1,14 +1,10 @@
-// The rows of a pack's tables: their types, and their readers by bytes or a lent pack and a record or row number.
+// The rows of a pack's tables: their types, and how they are read from a record of a lent pack.
 #![tactic(auto)]
 
-pub mod fields;
+pub mod entries;
 pub mod index;
+pub mod keys;
 pub mod lent;
-pub mod lists;
-pub mod number;
-pub mod parts;
-pub mod read;
-pub mod read_lists;
+pub mod record;
+pub mod row;
 pub mod rows;
-
-pub use lent::TableStarts;

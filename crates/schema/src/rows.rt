@@ -1,21 +1,16 @@
-// The rows of tables 0 to 7, 23 and 24: each with its table number and its empty row, the row of a record of zeros.
-#![tactic(auto, using(crate::proofs::Past::rows_past), unfolding(crate::specs::Rows::federate_at, crate::specs::Rows::enclave_at, crate::specs::Rows::reactor_at, crate::specs::Rows::action_at, crate::specs::Rows::port_at, crate::specs::Rows::reaction_at, crate::specs::Rows::mode_at, crate::specs::Rows::scope_at, crate::specs::Rows::route_at, crate::specs::Rows::binding_at))]
+// The rows of tables 0 to 7, 23 and 24: each with its table number, its empty row, and its reader.
+#![tactic(auto, unfolding(crate::specs::Rows::federate_at, crate::specs::Rows::enclave_at, crate::specs::Rows::reactor_at, crate::specs::Rows::action_at, crate::specs::Rows::port_at, crate::specs::Rows::reaction_at, crate::specs::Rows::mode_at, crate::specs::Rows::scope_at, crate::specs::Rows::route_at, crate::specs::Rows::binding_at))]
 
-ghost use Rattle.schema.specs.Tables.{start_of};
-ghost use Rattle.std.specs.Prelude.{◌≡◌, ◌+◌, false};
-ghost use Rattle.schema.specs.Rows.{federate_at, enclave_at, reactor_at, action_at, port_at, reaction_at, mode_at, scope_at, route_at, binding_at};
-ghost use Rattle.schema.specs.Rows.{empty, federate_of, enclave_of, reactor_of, action_of, port_of, reaction_of, mode_of, scope_of, route_of, binding_of};
+ghost use Rattle.std.specs.Prelude.{◌≡◌, false};
+ghost use Rattle.schema.specs.Rows.{empty, federate_of, federate_at, enclave_of, enclave_at, reactor_of, reactor_at, action_of, action_at, port_of, port_at, reaction_of, reaction_at, mode_of, mode_at, scope_of, scope_at, route_of, route_at, binding_of, binding_at};
+ghost use Rattle.schema.specs.Past.{federate_past, enclave_past, reactor_past, action_past, port_past, reaction_past, mode_past, scope_past, route_past, binding_past};
 
 use crate::index::{
-    ActionIndex, ActionTiming, BindingKind, BindingSlotIndex, MaybeBank, MaybeBinding, MaybeMode,
-    MaybeModeEffect, MaybeScope, ModeIndex, PortIndex, ReactionIndex, ReactorIndex, RouteDirection,
-    ScopeIndex, TimingDomain,
+    ActionTiming, BankInfoImage, BindingKind, BindingSlotIndex, ModeEffect, ModeIndex, PortIndex,
+    ReactorIndex, RouteDirection, ScopeIndex, TimingDomain, Transition,
 };
-use crate::lent::{Enclave, Pack};
-use crate::read::{
-    action_of, binding_of, enclave_of, federate_of, mode_of, port_of, reaction_of, reactor_of,
-    route_of, scope_of,
-};
+use crate::record::{Record, has_bit};
+use crate::row::{Row, Stored};
 use identity::IdentityPlace;
 use range::{EnclaveSpan, IndexSpan, ModeSpan, SliceRange};
 
@@ -50,15 +45,15 @@ pub struct ReactorImage {
     pub state_slot: u32,
     pub root_scope: ScopeIndex,
     pub modes: ModeSpan,
-    pub initial_mode: MaybeMode,
-    pub bank: MaybeBank,
+    pub initial_mode: Option<ModeIndex>,
+    pub bank: Option<BankInfoImage>,
 }
 
 #[derive(Clone, Copy)]
 pub struct ActionImage {
     pub scope: ScopeIndex,
     pub storage_slot: u32,
-    pub binding: MaybeBinding,
+    pub binding: Option<BindingSlotIndex>,
     pub timing: ActionTiming,
     pub triggers: SliceRange,
 }
@@ -81,7 +76,7 @@ pub struct ReactionImage {
     pub effect_ports: SliceRange,
     pub actions: SliceRange,
     pub enabled_modes: SliceRange,
-    pub mode_effect: MaybeModeEffect,
+    pub mode_effect: Option<ModeEffect>,
 }
 
 #[derive(Clone, Copy)]
@@ -92,9 +87,9 @@ pub struct ModeImage {
 
 #[derive(Clone, Copy)]
 pub struct ScopeImage {
-    pub parent: MaybeScope,
+    pub parent: Option<ScopeIndex>,
     pub reactor: ReactorIndex,
-    pub mode: MaybeMode,
+    pub mode: Option<ModeIndex>,
     pub descendants: SliceRange,
     pub logical_actions: SliceRange,
     pub timer_startups: SliceRange,
@@ -141,12 +136,14 @@ fn no_range() -> SliceRange
     SliceRange { start: 0, len: 0 }
 }
 
-impl FederateImage {
-    pub const TABLE: u8 = 0;
+impl Stored for FederateImage {
+    ghost at = { federate_at };
 
-    pub fn empty() -> Self
-        ensures { result ≡ empty federate_of }
-    {
+    ghost zeros = { empty federate_of };
+
+    ghost past = { federate_past };
+
+    fn empty() -> Self {
         FederateImage {
             id: no_text(),
             target: no_text(),
@@ -155,23 +152,30 @@ impl FederateImage {
         }
     }
 
-    // The row of record n; the empty row where the pack ends before it.
-    pub fn at(pack: Pack, n: usize) -> Self
-        ensures { result ≡ federate_at pack.entry.bytes.now n }
-    {
-        if pack.records() <= n {
-            return Self::empty();
+    fn of(from: Record) -> Self {
+        FederateImage {
+            id: from.place(from.has(0), 4),
+            target: from.place(from.has(1), 12),
+            runtime: from.place(from.has(2), 20),
+            enclaves: EnclaveSpan(from.span(28)),
         }
-        federate_of(pack.bytes, n)
     }
 }
 
-impl EnclaveImage {
-    pub const TABLE: u8 = 1;
+impl Row for FederateImage {
+    ghost TABLE = { 0 };
 
-    pub fn empty() -> Self
-        ensures { result ≡ empty enclave_of }
-    {
+    const TABLE: u8 = 0;
+}
+
+impl Stored for EnclaveImage {
+    ghost at = { enclave_at };
+
+    ghost zeros = { empty enclave_of };
+
+    ghost past = { enclave_past };
+
+    fn empty() -> Self {
         EnclaveImage {
             enclave_id: no_text(),
             storage_bounds: StorageBounds {
@@ -185,61 +189,78 @@ impl EnclaveImage {
         }
     }
 
-    // The row of record n; the empty row where the pack ends before it.
-    pub fn at(pack: Pack, n: usize) -> Self
-        ensures { result ≡ enclave_at pack.entry.bytes.now n }
-    {
-        if pack.records() <= n {
-            return Self::empty();
+    fn of(from: Record) -> Self {
+        EnclaveImage {
+            enclave_id: from.place(from.has(0), 4),
+            storage_bounds: StorageBounds {
+                state_slots: from.word(12),
+                action_slots: from.word(16),
+                event_capacity: from.word(20),
+                payload_bytes: from.long(24),
+                state_bytes: from.long(32),
+                scratch_bytes: from.long(40),
+            },
         }
-        enclave_of(pack.bytes, n)
     }
 }
 
-impl ReactorImage {
-    pub const TABLE: u8 = 2;
+impl Row for EnclaveImage {
+    ghost TABLE = { 1 };
 
-    pub fn empty() -> Self
-        ensures { result ≡ empty reactor_of }
-    {
+    const TABLE: u8 = 1;
+}
+
+impl Stored for ReactorImage {
+    ghost at = { reactor_at };
+
+    ghost zeros = { empty reactor_of };
+
+    ghost past = { reactor_past };
+
+    fn empty() -> Self {
         ReactorImage {
             state_binding: BindingSlotIndex(0),
             state_slot: 0,
             root_scope: ScopeIndex(0),
             modes: ModeSpan(no_span()),
-            initial_mode: MaybeMode::NoMode,
-            bank: MaybeBank::NoBank,
+            initial_mode: None,
+            bank: None,
         }
     }
 
-    // The row of record n; the empty row where the pack ends before it.
-    pub fn at(pack: Pack, n: usize) -> Self
-        ensures { result ≡ reactor_at pack.entry.bytes.now n }
-    {
-        if pack.records() <= n {
-            return Self::empty();
+    fn of(from: Record) -> Self {
+        ReactorImage {
+            state_binding: BindingSlotIndex(from.word(4)),
+            state_slot: from.word(8),
+            root_scope: ScopeIndex(from.word(12)),
+            modes: ModeSpan(from.span(16)),
+            initial_mode: from.has(0).then_some(ModeIndex(from.word(32))),
+            bank: from.has(1).then_some(BankInfoImage {
+                index: from.word(36),
+                total: from.word(40),
+            }),
         }
-        reactor_of(pack.bytes, n)
-    }
-
-    // Row i of the enclave's table.
-    pub fn row(e: Enclave, i: ReactorIndex) -> Self
-        ensures { result ≡ reactor_at e.entry.pack.bytes.now (start_of e.entry.starts.now 2 + i.0) }
-    {
-        Self::at(e.pack, e.record(ReactorImage::TABLE, i.0 as usize))
     }
 }
 
-impl ActionImage {
-    pub const TABLE: u8 = 3;
+impl Row for ReactorImage {
+    ghost TABLE = { 2 };
 
-    pub fn empty() -> Self
-        ensures { result ≡ empty action_of }
-    {
+    const TABLE: u8 = 2;
+}
+
+impl Stored for ActionImage {
+    ghost at = { action_at };
+
+    ghost zeros = { empty action_of };
+
+    ghost past = { action_past };
+
+    fn empty() -> Self {
         ActionImage {
             scope: ScopeIndex(0),
             storage_slot: 0,
-            binding: MaybeBinding::NoBinding,
+            binding: None,
             timing: ActionTiming::Standard {
                 domain: TimingDomain::Logical,
                 min_delay_nanos: 0,
@@ -248,30 +269,31 @@ impl ActionImage {
         }
     }
 
-    // The row of record n; the empty row where the pack ends before it.
-    pub fn at(pack: Pack, n: usize) -> Self
-        ensures { result ≡ action_at pack.entry.bytes.now n }
-    {
-        if pack.records() <= n {
-            return Self::empty();
+    fn of(from: Record) -> Self {
+        ActionImage {
+            scope: ScopeIndex(from.word(4)),
+            storage_slot: from.word(8),
+            binding: from.has(0).then_some(BindingSlotIndex(from.word(12))),
+            timing: ActionTiming::of(from.byte(2), from.has(1), from.long(16)),
+            triggers: from.range(24),
         }
-        action_of(pack.bytes, n)
-    }
-
-    // Row i of the enclave's table.
-    pub fn row(e: Enclave, i: ActionIndex) -> Self
-        ensures { result ≡ action_at e.entry.pack.bytes.now (start_of e.entry.starts.now 3 + i.0) }
-    {
-        Self::at(e.pack, e.record(ActionImage::TABLE, i.0 as usize))
     }
 }
 
-impl PortImage {
-    pub const TABLE: u8 = 4;
+impl Row for ActionImage {
+    ghost TABLE = { 3 };
 
-    pub fn empty() -> Self
-        ensures { result ≡ empty port_of }
-    {
+    const TABLE: u8 = 3;
+}
+
+impl Stored for PortImage {
+    ghost at = { port_at };
+
+    ghost zeros = { empty port_of };
+
+    ghost past = { port_past };
+
+    fn empty() -> Self {
         PortImage {
             binding: BindingSlotIndex(0),
             scope: ScopeIndex(0),
@@ -279,30 +301,29 @@ impl PortImage {
         }
     }
 
-    // The row of record n; the empty row where the pack ends before it.
-    pub fn at(pack: Pack, n: usize) -> Self
-        ensures { result ≡ port_at pack.entry.bytes.now n }
-    {
-        if pack.records() <= n {
-            return Self::empty();
+    fn of(from: Record) -> Self {
+        PortImage {
+            binding: BindingSlotIndex(from.word(4)),
+            scope: ScopeIndex(from.word(8)),
+            triggers: from.range(12),
         }
-        port_of(pack.bytes, n)
-    }
-
-    // Row i of the enclave's table.
-    pub fn row(e: Enclave, i: PortIndex) -> Self
-        ensures { result ≡ port_at e.entry.pack.bytes.now (start_of e.entry.starts.now 4 + i.0) }
-    {
-        Self::at(e.pack, e.record(PortImage::TABLE, i.0 as usize))
     }
 }
 
-impl ReactionImage {
-    pub const TABLE: u8 = 5;
+impl Row for PortImage {
+    ghost TABLE = { 4 };
 
-    pub fn empty() -> Self
-        ensures { result ≡ empty reaction_of }
-    {
+    const TABLE: u8 = 4;
+}
+
+impl Stored for ReactionImage {
+    ghost at = { reaction_at };
+
+    ghost zeros = { empty reaction_of };
+
+    ghost past = { reaction_past };
+
+    fn empty() -> Self {
         ReactionImage {
             external_effect: false,
             reactor: ReactorIndex(0),
@@ -313,68 +334,75 @@ impl ReactionImage {
             effect_ports: no_range(),
             actions: no_range(),
             enabled_modes: no_range(),
-            mode_effect: MaybeModeEffect::NoEffect,
+            mode_effect: None,
         }
     }
 
-    // The row of record n; the empty row where the pack ends before it.
-    pub fn at(pack: Pack, n: usize) -> Self
-        ensures { result ≡ reaction_at pack.entry.bytes.now n }
-    {
-        if pack.records() <= n {
-            return Self::empty();
+    fn of(from: Record) -> Self {
+        ReactionImage {
+            external_effect: from.has(0),
+            reactor: ReactorIndex(from.word(4)),
+            scope: ScopeIndex(from.word(8)),
+            dependency_level: from.word(12),
+            binding: BindingSlotIndex(from.word(16)),
+            use_ports: from.range(20),
+            effect_ports: from.range(28),
+            actions: from.range(36),
+            enabled_modes: from.range(44),
+            mode_effect: from.has(1).then_some(ModeEffect {
+                transition: Transition::from(from.byte(2)),
+                target: ModeIndex(from.word(52)),
+            }),
         }
-        reaction_of(pack.bytes, n)
-    }
-
-    // Row i of the enclave's table.
-    pub fn row(e: Enclave, i: ReactionIndex) -> Self
-        ensures { result ≡ reaction_at e.entry.pack.bytes.now (start_of e.entry.starts.now 5 + i.0) }
-    {
-        Self::at(e.pack, e.record(ReactionImage::TABLE, i.0 as usize))
     }
 }
 
-impl ModeImage {
-    pub const TABLE: u8 = 6;
+impl Row for ReactionImage {
+    ghost TABLE = { 5 };
 
-    pub fn empty() -> Self
-        ensures { result ≡ empty mode_of }
-    {
+    const TABLE: u8 = 5;
+}
+
+impl Stored for ModeImage {
+    ghost at = { mode_at };
+
+    ghost zeros = { empty mode_of };
+
+    ghost past = { mode_past };
+
+    fn empty() -> Self {
         ModeImage {
             reactor: ReactorIndex(0),
             scope: ScopeIndex(0),
         }
     }
 
-    // The row of record n; the empty row where the pack ends before it.
-    pub fn at(pack: Pack, n: usize) -> Self
-        ensures { result ≡ mode_at pack.entry.bytes.now n }
-    {
-        if pack.records() <= n {
-            return Self::empty();
+    fn of(from: Record) -> Self {
+        ModeImage {
+            reactor: ReactorIndex(from.word(4)),
+            scope: ScopeIndex(from.word(8)),
         }
-        mode_of(pack.bytes, n)
-    }
-
-    // Row i of the enclave's table.
-    pub fn row(e: Enclave, i: ModeIndex) -> Self
-        ensures { result ≡ mode_at e.entry.pack.bytes.now (start_of e.entry.starts.now 6 + i.0) }
-    {
-        Self::at(e.pack, e.record(ModeImage::TABLE, i.0 as usize))
     }
 }
 
-impl ScopeImage {
-    pub const TABLE: u8 = 7;
+impl Row for ModeImage {
+    ghost TABLE = { 6 };
 
-    pub fn empty() -> Self
-        ensures { result ≡ empty scope_of }
-    {
+    const TABLE: u8 = 6;
+}
+
+impl Stored for ScopeImage {
+    ghost at = { scope_at };
+
+    ghost zeros = { empty scope_of };
+
+    ghost past = { scope_past };
+
+    fn empty() -> Self {
         ScopeImage {
-            parent: MaybeScope::NoScope,
+            parent: None,
             reactor: ReactorIndex(0),
-            mode: MaybeMode::NoMode,
+            mode: None,
             descendants: no_range(),
             logical_actions: no_range(),
             timer_startups: no_range(),
@@ -384,30 +412,35 @@ impl ScopeImage {
         }
     }
 
-    // The row of record n; the empty row where the pack ends before it.
-    pub fn at(pack: Pack, n: usize) -> Self
-        ensures { result ≡ scope_at pack.entry.bytes.now n }
-    {
-        if pack.records() <= n {
-            return Self::empty();
+    fn of(from: Record) -> Self {
+        ScopeImage {
+            parent: from.has(0).then_some(ScopeIndex(from.word(4))),
+            reactor: ReactorIndex(from.word(8)),
+            mode: from.has(1).then_some(ModeIndex(from.word(12))),
+            descendants: from.range(16),
+            logical_actions: from.range(24),
+            timer_startups: from.range(32),
+            reset_reactions: from.range(40),
+            startup_reactions: from.range(48),
+            shutdown_reactions: from.range(56),
         }
-        scope_of(pack.bytes, n)
-    }
-
-    // Row i of the enclave's table.
-    pub fn row(e: Enclave, i: ScopeIndex) -> Self
-        ensures { result ≡ scope_at e.entry.pack.bytes.now (start_of e.entry.starts.now 7 + i.0) }
-    {
-        Self::at(e.pack, e.record(ScopeImage::TABLE, i.0 as usize))
     }
 }
 
-impl RouteImage {
-    pub const TABLE: u8 = 23;
+impl Row for ScopeImage {
+    ghost TABLE = { 7 };
 
-    pub fn empty() -> Self
-        ensures { result ≡ empty route_of }
-    {
+    const TABLE: u8 = 7;
+}
+
+impl Stored for RouteImage {
+    ghost at = { route_at };
+
+    ghost zeros = { empty route_of };
+
+    ghost past = { route_past };
+
+    fn empty() -> Self {
         RouteImage {
             boundary: no_text(),
             local_port: PortIndex(0),
@@ -417,50 +450,48 @@ impl RouteImage {
         }
     }
 
-    // The row of record n; the empty row where the pack ends before it.
-    pub fn at(pack: Pack, n: usize) -> Self
-        ensures { result ≡ route_at pack.entry.bytes.now n }
-    {
-        if pack.records() <= n {
-            return Self::empty();
+    fn of(from: Record) -> Self {
+        let kinds = from.byte(2);
+        RouteImage {
+            boundary: from.place(from.has(0), 4),
+            local_port: PortIndex(from.word(12)),
+            direction: RouteDirection::of(has_bit(kinds, 0)),
+            timing_domain: TimingDomain::of(has_bit(kinds, 1)),
+            delay_nanos: from.long(16),
         }
-        route_of(pack.bytes, n)
-    }
-
-    // Row i of the enclave's table.
-    pub fn row(e: Enclave, i: u32) -> Self
-        ensures { result ≡ route_at e.entry.pack.bytes.now (start_of e.entry.starts.now 23 + i) }
-    {
-        Self::at(e.pack, e.record(RouteImage::TABLE, i as usize))
     }
 }
 
-impl RequiredBindingImage {
-    pub const TABLE: u8 = 24;
+impl Row for RouteImage {
+    ghost TABLE = { 23 };
 
-    pub fn empty() -> Self
-        ensures { result ≡ empty binding_of }
-    {
+    const TABLE: u8 = 23;
+}
+
+impl Stored for RequiredBindingImage {
+    ghost at = { binding_at };
+
+    ghost zeros = { empty binding_of };
+
+    ghost past = { binding_past };
+
+    fn empty() -> Self {
         RequiredBindingImage {
             id: no_text(),
             kind: BindingKind::StateInitializer,
         }
     }
 
-    // The row of record n; the empty row where the pack ends before it.
-    pub fn at(pack: Pack, n: usize) -> Self
-        ensures { result ≡ binding_at pack.entry.bytes.now n }
-    {
-        if pack.records() <= n {
-            return Self::empty();
+    fn of(from: Record) -> Self {
+        RequiredBindingImage {
+            id: from.place(from.has(0), 4),
+            kind: BindingKind::from(from.byte(2)),
         }
-        binding_of(pack.bytes, n)
     }
+}
 
-    // Row i of the enclave's table.
-    pub fn row(e: Enclave, i: BindingSlotIndex) -> Self
-        ensures { result ≡ binding_at e.entry.pack.bytes.now (start_of e.entry.starts.now 24 + i.0) }
-    {
-        Self::at(e.pack, e.record(RequiredBindingImage::TABLE, i.0 as usize))
-    }
+impl Row for RequiredBindingImage {
+    ghost TABLE = { 24 };
+
+    const TABLE: u8 = 24;
 }

@@ -2,8 +2,6 @@
 use Rattle.std.proofs.Common.{ℕ, zero, suc, ◌+◌, ◌-◌, ◌*◌, ◌^◌, ◌<◌, ◌≤◌, ◌≡◌, min, refl, arith, add-one}
 use Rattle.std.proofs.Math.Nat.{suc-mul, mul-le-mul}
 use Rattle.schema.specs.declared.index.ScopeIndex.{ScopeIndex}
-use Rattle.schema.specs.declared.index.MaybeScope.{MaybeScope}
-use Rattle.schema.specs.declared.index.MaybeScope.TheVariants.{NoScope, Scope}
 use Rattle.answers.specs.declared.Outcome.TheVariants.{Passed, Refused}
 use Rattle.answers.specs.declared.Refusal.TheVariants.{ScopeParentCycle}
 use Rattle.answers.specs.Checks.{first}

@@ -1,12 +1,8 @@
 -- Parent links: for each scope, parents followed until none or until as many as there are scopes; the count is the sum over scopes
 -- (document 01, module 5). Assumes nothing.
-use Rattle.std.specs.Prelude.{ℕ, zero, suc, ◌+◌, List, [], ◌∷◌, ltb}
+use Rattle.std.specs.Prelude.{ℕ, zero, suc, ◌+◌, List, [], ◌∷◌, ltb, Ok, Err}
 use Rattle.answers.specs.declared.Refusal.TheVariants.{ScopeParentCycle}
-use Rattle.answers.specs.declared.Outcome.{Outcome}
-use Rattle.answers.specs.declared.Outcome.TheVariants.{Passed, Refused}
-use Rattle.answers.specs.Checks.{Check, need}
-use Rattle.schema.specs.declared.index.MaybeScope.{MaybeScope}
-use Rattle.schema.specs.declared.index.MaybeScope.TheVariants.{NoScope, Scope}
+use Rattle.answers.specs.Checks.{Check, need, Outcome, passed}
 use Rattle.checks.specs.Image.{Image}
 use Rattle.scope_checks.specs.declared.links.Parents.{Parents}
 use Rattle.scope_checks.specs.declared.links.Parents.TheVariants as parents-are
@@ -39,5 +35,5 @@ cycle_checks m i = need (ltb (links_of (parents m) (m.rows 7) i) (m.rows 7)) (Sc
 
 -- what the walk of all parents answers: the links where the checks passed, else the refusal
 abbrev pub parents_answer : Outcome → ℕ → Parents
-parents_answer Passed n = parents-are.Links n
-parents_answer (Refused r) n = parents-are.Refused r
+parents_answer (Ok u) n = parents-are.Links n
+parents_answer (Err r) n = parents-are.Refused r

@@ -1,12 +1,9 @@
 -- The checks of a row of scopes: view.rs, the sixth row loop. Assumes nothing.
 use Rattle.std.specs.Prelude.{ℕ, ◌&&◌, List, [], ◌∷◌, ◌++◌, eqb}
 use Rattle.answers.specs.declared.Refusal.TheVariants.{OwnershipMismatch}
-use Rattle.answers.specs.Fields as field
+use Rattle.answers.specs.Fields.{row_field}
+use Rattle.answers.specs.declared.field.Field.TheVariants as field
 use Rattle.answers.specs.Checks.{Check, need}
-use Rattle.schema.specs.declared.index.MaybeMode.{MaybeMode}
-use Rattle.schema.specs.declared.index.MaybeMode.TheVariants.{NoMode, Mode}
-use Rattle.schema.specs.declared.index.MaybeScope.{MaybeScope}
-use Rattle.schema.specs.declared.index.MaybeScope.TheVariants.{NoScope, Scope}
 use Rattle.schema.specs.declared.rows.ModeImage.{ModeImage}
 use Rattle.schema.specs.declared.rows.ScopeImage.{ScopeImage}
 use Rattle.checks.specs.Image.{Image}
@@ -16,19 +13,19 @@ use Rattle.scope_checks.specs.Ends.{ends_before, scope_range_checks}
 
 unfoldable pub parent_checks : (ℕ → ℕ) → ℕ → MaybeScope → List Check
 parent_checks rows i NoScope = []
-parent_checks rows i (Scope s) = ref_to rows 7 i field.parent 7 s.0 ∷ []
+parent_checks rows i (Scope s) = ref_to rows 7 i field.Parent 7 s.0 ∷ []
 
 -- the scope's mode is there, and names this scope and its reactor
 unfoldable pub scope_mode_checks : (ℕ → ℕ) → (ℕ → ModeImage) → ℕ → ℕ → MaybeMode → List Check
 scope_mode_checks rows modes i reactor NoMode = []
 scope_mode_checks rows modes i reactor (Mode m) =
-    ref_to rows 7 i field.mode 6 m.0
-    ∷ need (eqb (modes m.0).scope.0 i && eqb (modes m.0).reactor.0 reactor) (OwnershipMismatch 7 i field.mode)
+    ref_to rows 7 i field.Mode 6 m.0
+    ∷ need (eqb (modes m.0).scope.0 i && eqb (modes m.0).reactor.0 reactor) (OwnershipMismatch (row_field 7 i field.Mode))
     ∷ []
 
 unfoldable pub scope_owner_checks : Image → ℕ → ScopeImage → List Check
 scope_owner_checks m i row =
-    (ref_to m.rows 7 i field.reactor 2 row.reactor.0 ∷ [])
+    (ref_to m.rows 7 i field.Reactor 2 row.reactor.0 ∷ [])
     ++ (parent_checks m.rows i row.parent
     ++ scope_mode_checks m.rows m.modes i row.reactor.0 row.mode)
 

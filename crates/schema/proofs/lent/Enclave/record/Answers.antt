@@ -5,10 +5,12 @@ use Rattle.schema.proofs.lent.Enclave.record.Goals as goal
 
 pub returns-clause-inside : goal.returns-clause-inside
 returns-clause-inside c =
-    row_inside c.args.self.starts.now c.args.table c.args.i _ c.args.self.rising c.requires.known refl
+    let e = c.args.self.now in
+    row_inside e.starts.now.firsts c.args.table c.args.i _ e.starts.now.rising c.requires.known refl
 
 pub returns-clause-there : goal.returns-clause-there
 returns-clause-there c h =
-    let before = row_inside c.args.self.starts.now c.args.table c.args.i _ c.args.self.rising c.requires.known refl h in
-    let end = c.args.self.inside in
+    let e = c.args.self.now in
+    let before = row_inside e.starts.now.firsts c.args.table c.args.i _ e.starts.now.rising c.requires.known refl h in
+    let end = e.inside in
     omega arith
