@@ -118,11 +118,15 @@ scopes_at p s i = scope_at p (start_of s 7 + i)
 abbrev pub bindings_at : List ℕ → List ℕ → ℕ → RequiredBindingImage
 bindings_at p s i = binding_at p (start_of s 24 + i)
 
+-- row i of list table t, by what its records hold
+abbrev pub stored_at : {A : Type 0} → (List ℕ → ℕ → A) → List ℕ → List ℕ → ℕ → ℕ → A
+stored_at at p s t i = at p (start_of s t + i)
+
 abbrev pub levels_at : List ℕ → List ℕ → ℕ → ℕ → LevelReactionImage
-levels_at p s t i = level_at p (start_of s t + i)
+levels_at p s = stored_at level_at p s
 
 abbrev pub lifecycles_at : List ℕ → List ℕ → ℕ → ℕ → LifecycleReactionImage
-lifecycles_at p s t i = lifecycle_at p (start_of s t + i)
+lifecycles_at p s = stored_at lifecycle_at p s
 
 -- the image of the enclave whose record is record n of the pack p, and whose tables begin at s
 abbrev pub image : List ℕ → List ℕ → List ℕ → List ℕ → ℕ → Image

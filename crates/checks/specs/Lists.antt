@@ -55,8 +55,8 @@ module _ {A : Type 0} (rows : ℕ → ℕ) (reactions : ℕ → ReactionPart) (o
   range_of_checks entries t start len = run (listed_checks entries t start) 0 len
 
 -- what each kind asks for itself: an entry of levels nothing, one of lifecycle reactions that its action is there
-abbrev pub no_more : ℕ → ℕ → LevelReactionImage → List Check
-no_more t i x = []
+abbrev pub no_more : (ℕ → ℕ) → ℕ → ℕ → LevelReactionImage → List Check
+no_more rows t i x = []
 
 abbrev pub action_checks : (ℕ → ℕ) → ℕ → ℕ → LifecycleReactionImage → List Check
 action_checks rows t i x = ref_to rows t i field.Action 3 x.action.0 ∷ []
@@ -70,13 +70,13 @@ reaction_of x = x.reaction
 -- the lists of levels, and of lifecycle reactions
 module _ (rows : ℕ → ℕ) (reactions : ℕ → ReactionPart) where
   abbrev pub level_checks : (ℕ → ℕ → LevelReactionImage) → ℕ → ℕ → ℕ → List Check
-  level_checks levels t start k = listed_checks rows reactions no_more level_of levels t start k
+  level_checks levels t start k = listed_checks rows reactions (no_more rows) level_of levels t start k
 
   abbrev pub lifecycle_checks : (ℕ → ℕ → LifecycleReactionImage) → ℕ → ℕ → ℕ → List Check
   lifecycle_checks lifecycles t start k = listed_checks rows reactions (action_checks rows) reaction_of lifecycles t start k
 
   abbrev pub levels_checks : (ℕ → ℕ → LevelReactionImage) → ℕ → ℕ → ℕ → List Check
-  levels_checks levels t start len = range_of_checks rows reactions no_more level_of levels t start len
+  levels_checks levels t start len = range_of_checks rows reactions (no_more rows) level_of levels t start len
 
   abbrev pub lifecycles_checks : (ℕ → ℕ → LifecycleReactionImage) → ℕ → ℕ → ℕ → List Check
   lifecycles_checks lifecycles t start len = range_of_checks rows reactions (action_checks rows) reaction_of lifecycles t start len

@@ -3,10 +3,10 @@ ghost use Rattle.std.specs.Prelude.{ℕ, ◌≡◌, [], ◌∷◌, ◌+◌, ◌-
 ghost use Rattle.answers.specs.Checks.{Check, first};
 ghost use Rattle.schema.specs.Tables.{start_of, rows_of, tables};
 ghost use Rattle.schema.specs.declared.entries.LevelReactionImage.{LevelReactionImage};
-ghost use Rattle.checks.specs.Image.{image_of};
+ghost use Rattle.checks.specs.Image.{image_of, stored_at};
 ghost use Rattle.checks.specs.Lists.{entry_index, after_first, level_ref_checks, level_order_checks, entry_checks, listed_checks, range_of_checks, no_more, action_checks, level_of, reaction_of};
 
-use crate::refs::check_ref;
+use crate::refs::{check_exists, check_ref};
 use answers::{Field, Refusal, RowField};
 use range::SliceRange;
 use schema::entries::{LevelReactionImage, LifecycleReactionImage};
@@ -28,7 +28,7 @@ pub trait Listed: Stored {
 }
 
 impl Listed for LevelReactionImage {
-    ghost own = { λ rows t i x. no_more t i x };
+    ghost own = { no_more };
 
     ghost level = { level_of };
 
@@ -53,8 +53,7 @@ impl Listed for LifecycleReactionImage {
             index,
             field: Field::Action,
         };
-        check_ref(starts, at, self.action)?;
-        Ok(())
+        check_exists(starts, at, self.action)
     }
 
     fn level(self) -> LevelReactionImage {
@@ -143,7 +142,7 @@ fn check_after<L: Listed>(
 pub fn check_listed<L: Listed>(e: &Enclave, table: u8, start: u32, k: u32) -> Result<(), Refusal>
     requires { table < tables }
     ensures { let m = image_of e.now
-        in let entries = λ (t i : ℕ). L.at e.now.pack.bytes.now (start_of e.now.starts.now.firsts t + i)
+        in let entries = stored_at L.at e.now.pack.bytes.now e.now.starts.now.firsts
         in result ≡ first (listed_checks m.rows m.reactions (L.own m.rows) L.level entries table start k) }
 {
     let entry = L::at(e.pack, e.record(table, start as usize + k as usize));
@@ -156,7 +155,7 @@ pub fn check_listed<L: Listed>(e: &Enclave, table: u8, start: u32, k: u32) -> Re
 pub fn validate_levels<L: Listed>(e: &Enclave, table: u8, range: SliceRange) -> Result<(), Refusal>
     requires { table < tables }
     ensures { let m = image_of e.now
-        in let entries = λ (t i : ℕ). L.at e.now.pack.bytes.now (start_of e.now.starts.now.firsts t + i)
+        in let entries = stored_at L.at e.now.pack.bytes.now e.now.starts.now.firsts
         in result ≡ first (range_of_checks m.rows m.reactions (L.own m.rows) L.level entries table range.start range.len) }
 {
     for k in 0..range.len {

@@ -2,7 +2,7 @@
 ghost use Rattle.std.specs.Prelude.{◌≡◌, [], ◌∷◌, ◌<◌};
 ghost use Rattle.answers.specs.Checks.{first};
 ghost use Rattle.schema.specs.Tables.{rows_of, tables};
-ghost use Rattle.checks.specs.Refs.{length_check, looked_up, span_checks, range_checks};
+ghost use Rattle.checks.specs.Refs.{length_check, ref_to, looked_up, span_checks, range_checks};
 
 use answers::{Refusal, RowField};
 use range::{IndexSpan, SliceRange};
@@ -53,6 +53,14 @@ pub fn check_ref<K: Key>(starts: &TableStarts, at: RowField, key: K) -> Result<F
         key,
         record_number: starts.firsts[target as usize] as usize + referenced as usize,
     })
+}
+
+// The key's row is there.
+pub fn check_exists<K: Key>(starts: &TableStarts, at: RowField, key: K) -> Result<(), Refusal>
+    ensures { let rows = rows_of starts.now.firsts in result ≡ first (ref_to rows at.table at.index at.field K.Row.TABLE (K.number key) ∷ []) }
+{
+    check_ref(starts, at, key)?;
+    Ok(())
 }
 
 // A span against the table of R's rows and the end of the row before.

@@ -2,29 +2,36 @@
 use Rattle.std.specs.Prelude.{◌+◌, ◌-◌, ℕ, not, List, [], ◌∷◌, ◌++◌, ltb, eqb}
 use Rattle.answers.specs.declared.Refusal.TheVariants.{OwnershipMismatch, DuplicateEntry, EntriesNotSorted}
 use Rattle.answers.specs.Fields.{row_field}
+use Rattle.answers.specs.declared.field.Field.{Field}
 use Rattle.answers.specs.declared.field.Field.TheVariants as field
 use Rattle.answers.specs.Checks.{Check, need, run}
-use Rattle.checks.specs.Image.{Image}
+use Rattle.schema.specs.declared.entries.LevelReactionImage.{LevelReactionImage}
+use Rattle.checks.specs.Image.{Image, ReactionPart}
 use Rattle.schema.specs.declared.rows.ModeImage.{ModeImage}
 use Rattle.checks.specs.Refs.{ref_to}
-use Rattle.checks.specs.Lists.{entry_index, after_first, level_ref_checks, levels_checks, lifecycle_checks, lifecycles_checks}
+use Rattle.range.specs.declared.SliceRange.{SliceRange}
+use Rattle.checks.specs.Lists.{entry_index, after_first, entry_checks, no_more, level_of, action_checks, reaction_of, levels_checks, lifecycle_checks, lifecycles_checks}
 
--- entry i of table t, one index in the field f, refers to table g
-unfoldable pub index_checks : ℕ → ℕ → ℕ → Image → ℕ → List Check
-index_checks t f g m i = ref_to m.rows t i f g (m.indexes t i) ∷ []
+-- entry i of table t, which names `named i`, refers in the field f to table g
+unfoldable pub named_checks : ℕ → Field → ℕ → (ℕ → ℕ) → Image → ℕ → List Check
+named_checks t f g named m i = ref_to m.rows t i f g (named i) ∷ []
 
--- entry i of table t names an action
-unfoldable pub startup_checks : ℕ → Image → ℕ → List Check
-startup_checks t m i = ref_to m.rows t i field.Action 3 (m.startups t i) ∷ []
+-- an entry of one index, and one that names an action to start
+abbrev pub index_checks : ℕ → Field → ℕ → Image → ℕ → List Check
+index_checks t f g m i = named_checks t f g (m.indexes t) m i
 
--- the triggers of action i, and of port i
-unfoldable pub action_trigger_checks : Image → ℕ → List Check
-action_trigger_checks m i =
-    levels_checks m.rows m.reactions m.levels 8 (m.actions i).triggers.start (m.actions i).triggers.len
+abbrev pub startup_checks : ℕ → Image → ℕ → List Check
+startup_checks t m i = named_checks t field.Action 3 (m.startups t) m i
 
-unfoldable pub port_trigger_checks : Image → ℕ → List Check
-port_trigger_checks m i =
-    levels_checks m.rows m.reactions m.levels 8 (m.ports i).triggers.start (m.ports i).triggers.len
+-- the triggers of row i, and so of action i and of port i
+unfoldable pub trigger_checks : (ℕ → SliceRange) → Image → ℕ → List Check
+trigger_checks triggers m i = levels_checks m.rows m.reactions m.levels 8 (triggers i).start (triggers i).len
+
+abbrev pub action_trigger_checks : Image → ℕ → List Check
+action_trigger_checks m i = trigger_checks (λ j. (m.actions j).triggers) m i
+
+abbrev pub port_trigger_checks : Image → ℕ → List Check
+port_trigger_checks m i = trigger_checks (λ j. (m.ports j).triggers) m i
 
 -- entry k of the enabled modes of reaction i, which is the reactor's: the mode is there, and the reactor's too
 unfoldable pub enabled_mode_checks : (ℕ → ℕ) → (ℕ → ModeImage) → (ℕ → ℕ → ℕ) → ℕ → ℕ → ℕ → ℕ → List Check
@@ -47,14 +54,16 @@ scope_list_checks m i =
     ++ (lifecycles_checks m.rows m.reactions m.lifecycles 17 (m.scopes i).startup_reactions.start (m.scopes i).startup_reactions.len
     ++ lifecycles_checks m.rows m.reactions m.lifecycles 18 (m.scopes i).shutdown_reactions.start (m.scopes i).shutdown_reactions.len)
 
--- every entry of table t, whether or not some range covers it
-unfoldable pub level_entry_checks : ℕ → Image → ℕ → List Check
-level_entry_checks t m i = level_ref_checks m.rows m.reactions t i (m.levels t i)
+-- every entry of table t, whether or not some range covers it: by itself
+module _ {A : Type 0} (rows : ℕ → ℕ) (reactions : ℕ → ReactionPart) (own : ℕ → ℕ → A → List Check) (level : A → LevelReactionImage) where
+  unfoldable pub listed_entry_checks : (ℕ → ℕ → A) → ℕ → ℕ → List Check
+  listed_entry_checks entries t i = entry_checks rows reactions own level t i (entries t i)
 
-unfoldable pub lifecycle_entry_checks : ℕ → Image → ℕ → List Check
-lifecycle_entry_checks t m i =
-    (ref_to m.rows t i field.Action 3 (m.lifecycles t i).action.0 ∷ [])
-    ++ level_ref_checks m.rows m.reactions t i (m.lifecycles t i).reaction
+abbrev pub level_entry_checks : ℕ → Image → ℕ → List Check
+level_entry_checks t m = listed_entry_checks m.rows m.reactions (no_more m.rows) level_of m.levels t
+
+abbrev pub lifecycle_entry_checks : ℕ → Image → ℕ → List Check
+lifecycle_entry_checks t m = listed_entry_checks m.rows m.reactions (action_checks m.rows) reaction_of m.lifecycles t
 
 -- the shutdown reactions, one list over the whole table
 abbrev pub shutdown_reaction_checks : Image → ℕ → List Check

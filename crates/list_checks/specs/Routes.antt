@@ -19,7 +19,7 @@ use Rattle.checks.specs.Identities.{id_check, is_equal, is_less, text_order_chec
 unfoldable pub route_order_checks : ℕ → IdentityPlace → List ℕ → RouteDirection → List ℕ → RouteDirection → List Check
 route_order_checks i id t d before e =
     need (not (is_less (compared t before))) (StableIdsNotSorted (stable_id kind.Boundary i id))
-    ∷ need (not (is_equal (compared t before) && eqb (direction_number d) (direction_number e))) (DuplicateRouteHalf id (direction_number d))
+    ∷ need (not (is_equal (compared t before) && eqb (direction_number d) (direction_number e))) (DuplicateRouteHalf id d)
     ∷ need (not (is_equal (compared t before) && eqb (direction_number e) 1)) (EntriesNotSorted 23 i)
     ∷ []
 

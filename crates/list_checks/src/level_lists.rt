@@ -1,160 +1,132 @@
 // Lists of reactions by level: triggers, the lists of scopes, and every entry of their tables.
 #![tactic(auto, using(answers::proofs::Loops::run_laws))]
 
-ghost use Rattle.std.specs.Prelude.{◌≡◌, ◌<◌};
-ghost use Rattle.answers.specs.Checks.{first, is_passed, run};
-ghost use Rattle.schema.specs.Tables.{tables};
-ghost use Rattle.checks.specs.Image.{image_of};
-ghost use Rattle.list_checks.specs.ListTables.{action_trigger_checks, port_trigger_checks, scope_list_checks, level_entry_checks, lifecycle_entry_checks, shutdown_reaction_checks};
+ghost use Rattle.std.specs.Prelude.{ℕ, ◌≡◌, ◌+◌, ◌<◌};
+ghost use Rattle.range.specs.declared.SliceRange.{SliceRange};
+ghost use Rattle.answers.specs.Checks.{first, run};
+ghost use Rattle.schema.specs.Tables.{start_of, tables};
+ghost use Rattle.checks.specs.Image.{image_of, stored_at};
+ghost use Rattle.list_checks.specs.ListTables.{trigger_checks, action_trigger_checks, port_trigger_checks, scope_list_checks, listed_entry_checks, shutdown_reaction_checks};
+ghost use Rattle.schema.specs.Keys.{known_3, known_4};
 
-use answers::Outcome;
-use checks::lists::{
-    check_action, check_lifecycle, validate_level_ref, validate_levels, validate_lifecycle,
-};
-use schema::index::{ActionIndex, PortIndex, ScopeIndex};
-use schema::lent::Enclave;
-use schema::lists::{
+use answers::Refusal;
+use checks::lists::{Listed, check_entry, check_listed, validate_levels};
+use range::SliceRange;
+use schema::entries::{
     LevelReactionImage, LifecycleReactionImage, ReactionTrigger, ScopeResetReaction,
     ScopeShutdownReaction, ScopeStartupReaction, ShutdownReaction,
 };
+use schema::index::ScopeIndex;
+use schema::lent::Enclave;
+use schema::row::{Row, Stored};
 use schema::rows::{ActionImage, PortImage, ScopeImage};
 
-// The triggers of every action.
-#[tactic(auto, using(answers::proofs::Loops::run_laws), unfolding(crate::specs::ListTables::action_trigger_checks))]
-pub fn check_triggers_of_actions(e: Enclave) -> Outcome
-    ensures { let m = image_of e.entry in result ≡ first (run (action_trigger_checks m) 0 (m.rows 3)) }
-{
-    for i in 0..e.rows(ActionImage::TABLE) {
-        let action = ActionImage::row(e, ActionIndex(i));
-        let outcome = validate_levels(e, ReactionTrigger::TABLE, action.triggers);
-        let Outcome::Passed = outcome else {
-            return outcome;
-        };
-    }
-    Outcome::Passed
+// A row that triggers reactions.
+pub trait Triggering: Row {
+    ghost triggers: { Self → SliceRange };
+
+    fn triggers(self) -> SliceRange
+        ensures { result ≡ triggers self };
+
+    ghost known: { Self.TABLE < tables };
 }
 
-// The triggers of every port.
-#[tactic(auto, using(answers::proofs::Loops::run_laws), unfolding(crate::specs::ListTables::port_trigger_checks))]
-pub fn check_triggers_of_ports(e: Enclave) -> Outcome
-    ensures { let m = image_of e.entry in result ≡ first (run (port_trigger_checks m) 0 (m.rows 4)) }
-{
-    for i in 0..e.rows(PortImage::TABLE) {
-        let port = PortImage::row(e, PortIndex(i));
-        let outcome = validate_levels(e, ReactionTrigger::TABLE, port.triggers);
-        let Outcome::Passed = outcome else {
-            return outcome;
-        };
+impl Triggering for ActionImage {
+    ghost triggers = { λ a. a.triggers };
+
+    ghost known = { known_3 };
+
+    fn triggers(self) -> SliceRange {
+        self.triggers
     }
-    Outcome::Passed
 }
 
-// The reset, startup and shutdown reactions of scope i.
+impl Triggering for PortImage {
+    ghost triggers = { λ p. p.triggers };
+
+    ghost known = { known_4 };
+
+    fn triggers(self) -> SliceRange {
+        self.triggers
+    }
+}
+
+// The triggers of every row of a kind.
+#[tactic(auto, using(answers::proofs::Loops::run_laws), unfolding(crate::specs::ListTables::trigger_checks))]
+fn check_triggers<R: Triggering>(e: &Enclave) -> Result<(), Refusal>
+    ensures { let m = image_of e.now
+        in let row = stored_at R.at e.now.pack.bytes.now e.now.starts.now.firsts R.TABLE
+        in result ≡ first (run (trigger_checks (λ i. R.triggers (row i)) m) 0 (m.rows R.TABLE)) }
+{
+    for i in 0..e.rows(R::TABLE) {
+        let triggers = e.row_at::<R>(i as usize).triggers();
+        validate_levels::<LevelReactionImage>(e, ReactionTrigger::TABLE, triggers)?;
+    }
+    Ok(())
+}
+
+pub fn check_triggers_of_actions(e: &Enclave) -> Result<(), Refusal>
+    ensures { let m = image_of e.now in result ≡ first (run (action_trigger_checks m) 0 (m.rows 3)) }
+{
+    check_triggers::<ActionImage>(e)
+}
+
+pub fn check_triggers_of_ports(e: &Enclave) -> Result<(), Refusal>
+    ensures { let m = image_of e.now in result ≡ first (run (port_trigger_checks m) 0 (m.rows 4)) }
+{
+    check_triggers::<PortImage>(e)
+}
+
+// The reset, startup and shutdown reactions of a scope.
 #[tactic(auto, using(answers::proofs::Laws::list_laws), unfolding(crate::specs::ListTables::scope_list_checks))]
-fn check_lists_of_scope(e: Enclave, i: u32) -> Outcome
-    ensures { result ≡ first (scope_list_checks (image_of e.entry) i) }
+fn check_lists_of_scope(e: &Enclave, key: ScopeIndex) -> Result<(), Refusal>
+    ensures { result ≡ first (scope_list_checks (image_of e.now) key.0) }
 {
-    let scope = ScopeImage::row(e, ScopeIndex(i));
-    let reset = validate_levels(e, ScopeResetReaction::TABLE, scope.reset_reactions);
-    let Outcome::Passed = reset else {
-        return reset;
-    };
-    let startup = validate_lifecycle(e, ScopeStartupReaction::TABLE, scope.startup_reactions);
-    let Outcome::Passed = startup else {
-        return startup;
-    };
-    validate_lifecycle(e, ScopeShutdownReaction::TABLE, scope.shutdown_reactions)
+    let scope = e.row(key);
+    validate_levels::<LevelReactionImage>(e, ScopeResetReaction::TABLE, scope.reset_reactions)?;
+    validate_levels::<LifecycleReactionImage>(
+        e,
+        ScopeStartupReaction::TABLE,
+        scope.startup_reactions,
+    )?;
+    validate_levels::<LifecycleReactionImage>(
+        e,
+        ScopeShutdownReaction::TABLE,
+        scope.shutdown_reactions,
+    )
 }
 
 // The lists of every scope.
-pub fn check_lists_of_scopes(e: Enclave) -> Outcome
-    ensures { let m = image_of e.entry in result ≡ first (run (scope_list_checks m) 0 (m.rows 7)) }
+pub fn check_lists_of_scopes(e: &Enclave) -> Result<(), Refusal>
+    ensures { let m = image_of e.now in result ≡ first (run (scope_list_checks m) 0 (m.rows 7)) }
 {
     for i in 0..e.rows(ScopeImage::TABLE) {
-        let outcome = check_lists_of_scope(e, i);
-        let Outcome::Passed = outcome else {
-            return outcome;
-        };
+        check_lists_of_scope(e, ScopeIndex(i))?;
     }
-    Outcome::Passed
+    Ok(())
 }
 
-// Entry i of a table: its reaction is there, with its level.
-#[tactic(auto, unfolding(crate::specs::ListTables::level_entry_checks))]
-fn check_level_entry(e: Enclave, table: u8, i: u32) -> Outcome
+// Every entry of a table by itself, whether or not some range covers it.
+#[tactic(auto, using(answers::proofs::Loops::run_laws), unfolding(crate::specs::ListTables::listed_entry_checks))]
+pub fn check_listed_entries<L: Listed>(e: &Enclave, table: u8) -> Result<(), Refusal>
     requires { table < tables }
-    ensures { result ≡ first (level_entry_checks table (image_of e.entry) i) }
-{
-    let entry = LevelReactionImage::at(e.pack, e.record(table, i as usize));
-    validate_level_ref(e, table, i, entry)
-}
-
-// Every entry of a table, whether or not some range covers it.
-pub fn check_level_entries(e: Enclave, table: u8) -> Outcome
-    requires { table < tables }
-    ensures { let m = image_of e.entry in result ≡ first (run (level_entry_checks table m) 0 (m.rows table)) }
+    ensures { let m = image_of e.now
+        in let entries = stored_at L.at e.now.pack.bytes.now e.now.starts.now.firsts
+        in result ≡ first (run (listed_entry_checks m.rows m.reactions (L.own m.rows) L.level entries table) 0 (m.rows table)) }
 {
     for i in 0..e.rows(table) {
-        let outcome = check_level_entry(e, table, i);
-        let Outcome::Passed = outcome else {
-            return outcome;
-        };
+        let entry = L::at(e.pack, e.record(table, i as usize));
+        check_entry(e, table, i, entry)?;
     }
-    Outcome::Passed
-}
-
-// Entry i of a table: its action is there, and its reaction with its level.
-#[tactic(auto, unfolding(answers::specs::Checks::first, crate::specs::ListTables::lifecycle_entry_checks))]
-fn check_lifecycle_entry(e: Enclave, table: u8, i: u32) -> Outcome
-    requires { table < tables }
-    ensures { result ≡ first (lifecycle_entry_checks table (image_of e.entry) i) }
-{
-    let entry = LifecycleReactionImage::at(e.pack, e.record(table, i as usize));
-    let action = check_action(e.starts, table, i, entry.action);
-    let Outcome::Passed = action else {
-        return action;
-    };
-    validate_level_ref(e, table, i, entry.reaction)
-}
-
-// Every entry of a table, in the same way.
-pub fn check_lifecycle_entries(e: Enclave, table: u8) -> Outcome
-    requires { table < tables }
-    ensures { let m = image_of e.entry in result ≡ first (run (lifecycle_entry_checks table m) 0 (m.rows table)) }
-{
-    for i in 0..e.rows(table) {
-        let outcome = check_lifecycle_entry(e, table, i);
-        let Outcome::Passed = outcome else {
-            return outcome;
-        };
-    }
-    Outcome::Passed
+    Ok(())
 }
 
 // The shutdown reactions: one list over the whole table.
-pub fn check_shutdown_reactions(e: Enclave) -> Outcome
-    ensures { let m = image_of e.entry in result ≡ first (run (shutdown_reaction_checks m) 0 (m.rows 21)) }
+pub fn check_shutdown_reactions(e: &Enclave) -> Result<(), Refusal>
+    ensures { let m = image_of e.now in result ≡ first (run (shutdown_reaction_checks m) 0 (m.rows 21)) }
 {
     for i in 0..e.rows(ShutdownReaction::TABLE) {
-        let outcome = check_lifecycle(e, ShutdownReaction::TABLE, 0, i);
-        let Outcome::Passed = outcome else {
-            return outcome;
-        };
+        check_listed::<LifecycleReactionImage>(e, ShutdownReaction::TABLE, 0, i)?;
     }
-    Outcome::Passed
-}
-
-// Whether every entry of a table passes.
-pub fn level_entries_pass(e: Enclave, table: u8) -> bool
-    requires { table < tables }
-    ensures { let m = image_of e.entry in result ≡ is_passed (first (run (level_entry_checks table m) 0 (m.rows table))) }
-{
-    check_level_entries(e, table).is_passed()
-}
-
-pub fn lifecycle_entries_pass(e: Enclave, table: u8) -> bool
-    requires { table < tables }
-    ensures { let m = image_of e.entry in result ≡ is_passed (first (run (lifecycle_entry_checks table m) 0 (m.rows table))) }
-{
-    check_lifecycle_entries(e, table).is_passed()
+    Ok(())
 }

@@ -1,266 +1,268 @@
-// The list tables of one index or one startup, the enabled modes of reactions, and the shutdown actions.
+// The list tables whose entries name one row each, the enabled modes of reactions, and the shutdown actions.
 #![tactic(auto, using(answers::proofs::Loops::run_laws))]
 
-ghost use Rattle.std.specs.Prelude.{◌≡◌, ◌<◌, [], ◌∷◌};
+ghost use Rattle.std.specs.Prelude.{ℕ, ◌≡◌, ◌+◌, ◌<◌};
+ghost use Rattle.answers.specs.declared.field.Field.{Field};
+ghost use Rattle.answers.specs.declared.field.Field.TheVariants as field;
 ghost use Rattle.answers.specs.Checks.{first, run};
-ghost use Rattle.answers.specs.Fields as fields;
-ghost use Rattle.schema.specs.Tables.{tables, rows_of, IsRising};
-ghost use Rattle.checks.specs.Refs.{ref_to};
+ghost use Rattle.schema.specs.Tables.{start_of, tables};
 ghost use Rattle.checks.specs.Image.{image_of};
-ghost use Rattle.list_checks.specs.ListTables.{index_checks, startup_checks, enabled_mode_checks, enabled_modes_checks, index_order_checks, shutdown_action_checks};
+ghost use Rattle.list_checks.specs.ListTables.{named_checks, index_checks, startup_checks, enabled_mode_checks, enabled_modes_checks, index_order_checks, shutdown_action_checks};
 
-use answers::{Outcome, Refusal, field};
-use checks::Found;
-use checks::lists::{check_action, entry_index};
-use checks::refs::{check_action_ref, check_mode_ref, check_port_ref, check_scope_ref};
-use schema::index::{PortIndex, ReactionIndex, ReactorIndex};
-use schema::lent::{Enclave, TableStarts};
-use schema::lists::{
-    ActionEntry, ModeEntry, PortEntry, ReactionAction, ReactionEffectPort, ReactionMode,
-    ReactionUsePort, ScopeDescendant, ScopeEntry, ScopeLogicalAction, ScopeTimerStartup,
-    ShutdownAction, StartupAction, StartupEntry, TimerStartupAction,
-};
-use schema::rows::{ModeImage, ReactionImage};
+use answers::{Field, Refusal, RowField};
+use checks::lists::entry_index;
+use checks::refs::{check_exists, check_ref};
+use range::SliceRange;
+use schema::entries::{ReactionMode, ShutdownAction, TimerStartupImage};
+use schema::index::{ActionIndex, ModeIndex, PortIndex, ReactionIndex, ReactorIndex, ScopeIndex};
+use schema::lent::Enclave;
+use schema::row::{Key, Row, Stored};
+use schema::rows::ReactionImage;
 
-// A port that an entry or a row refers to is there.
-#[tactic(auto, unfolding(answers::specs::Checks::first))]
-pub fn check_port(starts: &TableStarts, table: u8, index: u32, field: u8, key: PortIndex) -> Outcome
-    requires { IsRising starts.now }
-    ensures { result ≡ first (ref_to (rows_of starts.now) table index field 4 key.0 ∷ []) }
-{
-    check_port_ref(starts, table, index, field, key).refused()
+// An entry that names a row of another table, in a field.
+pub trait Naming: Stored {
+    type Named: Key;
+
+    ghost field: { Field };
+
+    ghost named: { Self → Self.Named };
+
+    fn field() -> Field
+        ensures { result ≡ field };
+
+    fn named(self) -> Self::Named
+        ensures { result ≡ named self };
 }
 
-// Every entry of table T names a port that is there.
-#[tactic(auto, using(answers::proofs::Loops::run_laws), unfolding(answers::specs::Checks::first, crate::specs::ListTables::index_checks))]
-pub fn check_port_entries<const T: u8>(e: Enclave) -> Outcome
-    requires { T < tables }
-    ensures { let m = image_of e.entry in result ≡ first (run (index_checks T fields.port 4 m) 0 (m.rows T)) }
-{
-    for i in 0..e.rows(T) {
-        let entry = PortEntry::<T>::row(e, i as usize);
-        let outcome = check_port(e.starts, T, i, field::PORT, entry.0);
-        let Outcome::Passed = outcome else {
-            return outcome;
-        };
+impl Naming for PortIndex {
+    type Named = PortIndex;
+
+    ghost field = { field.Port };
+
+    ghost named = { λ k. k };
+
+    fn field() -> Field {
+        Field::Port
     }
-    Outcome::Passed
-}
 
-// The ports that reactions use, and those that they set.
-pub fn check_use_ports(e: Enclave) -> Outcome
-    ensures { let m = image_of e.entry in result ≡ first (run (index_checks 9 fields.port 4 m) 0 (m.rows 9)) }
-{
-    check_port_entries::<{ ReactionUsePort::TABLE }>(e)
-}
-
-pub fn check_effect_ports(e: Enclave) -> Outcome
-    ensures { let m = image_of e.entry in result ≡ first (run (index_checks 10 fields.port 4 m) 0 (m.rows 10)) }
-{
-    check_port_entries::<{ ReactionEffectPort::TABLE }>(e)
-}
-
-// Every entry of table T names an action that is there.
-#[tactic(auto, using(answers::proofs::Loops::run_laws), unfolding(answers::specs::Checks::first, crate::specs::ListTables::index_checks))]
-pub fn check_action_entries<const T: u8>(e: Enclave) -> Outcome
-    requires { T < tables }
-    ensures { let m = image_of e.entry in result ≡ first (run (index_checks T fields.action 3 m) 0 (m.rows T)) }
-{
-    for i in 0..e.rows(T) {
-        let entry = ActionEntry::<T>::row(e, i as usize);
-        let outcome = check_action(e.starts, T, i, entry.0);
-        let Outcome::Passed = outcome else {
-            return outcome;
-        };
+    fn named(self) -> PortIndex {
+        self
     }
-    Outcome::Passed
 }
 
-// The actions of reactions, and the logical actions of scopes.
-pub fn check_reaction_actions(e: Enclave) -> Outcome
-    ensures { let m = image_of e.entry in result ≡ first (run (index_checks 11 fields.action 3 m) 0 (m.rows 11)) }
-{
-    check_action_entries::<{ ReactionAction::TABLE }>(e)
-}
+impl Naming for ActionIndex {
+    type Named = ActionIndex;
 
-pub fn check_logical_actions(e: Enclave) -> Outcome
-    ensures { let m = image_of e.entry in result ≡ first (run (index_checks 14 fields.action 3 m) 0 (m.rows 14)) }
-{
-    check_action_entries::<{ ScopeLogicalAction::TABLE }>(e)
-}
+    ghost field = { field.Action };
 
-// Every entry of table T names a mode that is there.
-#[tactic(auto, using(answers::proofs::Loops::run_laws), unfolding(answers::specs::Checks::first, crate::specs::ListTables::index_checks))]
-pub fn check_mode_entries<const T: u8>(e: Enclave) -> Outcome
-    requires { T < tables }
-    ensures { let m = image_of e.entry in result ≡ first (run (index_checks T fields.mode 6 m) 0 (m.rows T)) }
-{
-    for i in 0..e.rows(T) {
-        let entry = ModeEntry::<T>::row(e, i as usize);
-        let found = check_mode_ref(e.starts, T, i, field::MODE, entry.0);
-        let Found::Row(..) = found else {
-            return found.refused();
-        };
+    ghost named = { λ k. k };
+
+    fn field() -> Field {
+        Field::Action
     }
-    Outcome::Passed
-}
 
-// The modes that enable reactions.
-pub fn check_reaction_modes(e: Enclave) -> Outcome
-    ensures { let m = image_of e.entry in result ≡ first (run (index_checks 12 fields.mode 6 m) 0 (m.rows 12)) }
-{
-    check_mode_entries::<{ ReactionMode::TABLE }>(e)
-}
-
-// Every entry of table T names a scope that is there.
-#[tactic(auto, using(answers::proofs::Loops::run_laws), unfolding(answers::specs::Checks::first, crate::specs::ListTables::index_checks))]
-pub fn check_scope_entries<const T: u8>(e: Enclave) -> Outcome
-    requires { T < tables }
-    ensures { let m = image_of e.entry in result ≡ first (run (index_checks T fields.scope 7 m) 0 (m.rows T)) }
-{
-    for i in 0..e.rows(T) {
-        let entry = ScopeEntry::<T>::row(e, i as usize);
-        let found = check_scope_ref(e.starts, T, i, field::SCOPE, entry.0);
-        let Found::Row(..) = found else {
-            return found.refused();
-        };
+    fn named(self) -> ActionIndex {
+        self
     }
-    Outcome::Passed
 }
 
-// The descendants of scopes.
-pub fn check_descendants(e: Enclave) -> Outcome
-    ensures { let m = image_of e.entry in result ≡ first (run (index_checks 13 fields.scope 7 m) 0 (m.rows 13)) }
-{
-    check_scope_entries::<{ ScopeDescendant::TABLE }>(e)
-}
+impl Naming for ModeIndex {
+    type Named = ModeIndex;
 
-// Every entry of table T names an action that is there, with its delay.
-#[tactic(auto, using(answers::proofs::Loops::run_laws), unfolding(answers::specs::Checks::first, crate::specs::ListTables::startup_checks))]
-pub fn check_startup_entries<const T: u8>(e: Enclave) -> Outcome
-    requires { T < tables }
-    ensures { let m = image_of e.entry in result ≡ first (run (startup_checks T m) 0 (m.rows T)) }
-{
-    for i in 0..e.rows(T) {
-        let startup = StartupEntry::<T>::row(e, i as usize).0;
-        let outcome = check_action(e.starts, T, i, startup.action);
-        let Outcome::Passed = outcome else {
-            return outcome;
-        };
+    ghost field = { field.Mode };
+
+    ghost named = { λ k. k };
+
+    fn field() -> Field {
+        Field::Mode
     }
-    Outcome::Passed
+
+    fn named(self) -> ModeIndex {
+        self
+    }
 }
 
-// The timers that scopes start, and the actions and timers that the enclave starts.
-pub fn check_timer_startups(e: Enclave) -> Outcome
-    ensures { let m = image_of e.entry in result ≡ first (run (startup_checks 15 m) 0 (m.rows 15)) }
+impl Naming for ScopeIndex {
+    type Named = ScopeIndex;
+
+    ghost field = { field.Scope };
+
+    ghost named = { λ k. k };
+
+    fn field() -> Field {
+        Field::Scope
+    }
+
+    fn named(self) -> ScopeIndex {
+        self
+    }
+}
+
+impl Naming for TimerStartupImage {
+    type Named = ActionIndex;
+
+    ghost field = { field.Action };
+
+    ghost named = { λ k. k.action };
+
+    fn field() -> Field {
+        Field::Action
+    }
+
+    fn named(self) -> ActionIndex {
+        self.action
+    }
+}
+
+// Every entry of a table names a row that is there.
+#[tactic(auto, using(answers::proofs::Loops::run_laws), unfolding(answers::specs::Checks::first, crate::specs::ListTables::named_checks))]
+fn check_named<N: Naming>(e: &Enclave, table: u8) -> Result<(), Refusal>
+    requires { table < tables }
+    ensures { let m = image_of e.now
+        in let named = λ (i : ℕ). N.Named.number (N.named (N.at e.now.pack.bytes.now (start_of e.now.starts.now.firsts table + i)))
+        in result ≡ first (run (named_checks table N.field N.Named.Row.TABLE named m) 0 (m.rows table)) }
 {
-    check_startup_entries::<{ ScopeTimerStartup::TABLE }>(e)
+    for i in 0..e.rows(table) {
+        let entry = N::at(e.pack, e.record(table, i as usize));
+        let at = RowField {
+            table,
+            index: i,
+            field: N::field(),
+        };
+        check_exists(e.starts, at, entry.named())?;
+    }
+    Ok(())
 }
 
-pub fn check_startup_actions(e: Enclave) -> Outcome
-    ensures { let m = image_of e.entry in result ≡ first (run (startup_checks 19 m) 0 (m.rows 19)) }
+pub fn check_port_entries(e: &Enclave, table: u8) -> Result<(), Refusal>
+    requires { table < tables }
+    ensures { let m = image_of e.now in result ≡ first (run (index_checks table field.Port 4 m) 0 (m.rows table)) }
 {
-    check_startup_entries::<{ StartupAction::TABLE }>(e)
+    check_named::<PortIndex>(e, table)
 }
 
-pub fn check_timer_startup_actions(e: Enclave) -> Outcome
-    ensures { let m = image_of e.entry in result ≡ first (run (startup_checks 20 m) 0 (m.rows 20)) }
+pub fn check_action_entries(e: &Enclave, table: u8) -> Result<(), Refusal>
+    requires { table < tables }
+    ensures { let m = image_of e.now in result ≡ first (run (index_checks table field.Action 3 m) 0 (m.rows table)) }
 {
-    check_startup_entries::<{ TimerStartupAction::TABLE }>(e)
+    check_named::<ActionIndex>(e, table)
 }
 
-// Entry k of the enabled modes of reaction i: the mode is there, and of the reaction's reactor.
+pub fn check_mode_entries(e: &Enclave, table: u8) -> Result<(), Refusal>
+    requires { table < tables }
+    ensures { let m = image_of e.now in result ≡ first (run (index_checks table field.Mode 6 m) 0 (m.rows table)) }
+{
+    check_named::<ModeIndex>(e, table)
+}
+
+pub fn check_scope_entries(e: &Enclave, table: u8) -> Result<(), Refusal>
+    requires { table < tables }
+    ensures { let m = image_of e.now in result ≡ first (run (index_checks table field.Scope 7 m) 0 (m.rows table)) }
+{
+    check_named::<ScopeIndex>(e, table)
+}
+
+pub fn check_startup_entries(e: &Enclave, table: u8) -> Result<(), Refusal>
+    requires { table < tables }
+    ensures { let m = image_of e.now in result ≡ first (run (startup_checks table m) 0 (m.rows table)) }
+{
+    check_named::<TimerStartupImage>(e, table)
+}
+
+// Entry k of the enabled modes of a reaction: the mode is there, and of the reaction's reactor.
 #[tactic(auto, unfolding(answers::specs::Checks::first, crate::specs::ListTables::enabled_mode_checks))]
-fn check_enabled_mode(e: Enclave, i: u32, reactor: ReactorIndex, start: u32, k: u32) -> Outcome
-    ensures { let m = image_of e.entry in result ≡ first (enabled_mode_checks m.rows m.modes m.indexes i reactor.0 start k) }
+fn check_enabled_mode(
+    e: &Enclave,
+    key: ReactionIndex,
+    reactor: ReactorIndex,
+    start: u32,
+    k: u32,
+) -> Result<(), Refusal>
+    ensures { let m = image_of e.now in result ≡ first (enabled_mode_checks m.rows m.modes m.indexes key.0 reactor.0 start k) }
 {
-    let key = ReactionMode::row(e, start as usize + k as usize).0;
-    let index = entry_index(start, k);
-    let found = check_mode_ref(e.starts, ReactionMode::TABLE, index, field::MODE, key);
-    let Found::Row(mode, _) = found else {
-        return found.refused();
+    let entry = e.row_at::<ReactionMode>(start as usize + k as usize);
+    let at = RowField {
+        table: ReactionMode::TABLE,
+        index: entry_index(start, k),
+        field: Field::Mode,
     };
-    if ModeImage::row(e, mode).reactor.0 == reactor.0 {
-        return Outcome::Passed;
+    let mode = check_ref(e.starts, at, entry.holds)?;
+    if mode.row(e.pack).reactor == reactor {
+        return Ok(());
     }
-    Outcome::Refused(Refusal::OwnershipMismatch {
-        table: ReactionImage::TABLE,
-        index: i,
-        field: field::ENABLED_MODES_REACTOR,
+    Err(Refusal::OwnershipMismatch {
+        at: RowField::of(key, Field::EnabledModesReactor),
     })
 }
 
-// The enabled modes of reaction i.
+// The enabled modes of a reaction.
 #[tactic(auto, using(answers::proofs::Loops::run_laws), unfolding(crate::specs::ListTables::enabled_modes_checks))]
-fn check_modes_of_reaction(e: Enclave, i: u32) -> Outcome
-    ensures { result ≡ first (enabled_modes_checks (image_of e.entry) i) }
+fn check_modes_of_reaction(e: &Enclave, key: ReactionIndex) -> Result<(), Refusal>
+    ensures { result ≡ first (enabled_modes_checks (image_of e.now) key.0) }
 {
-    let reaction = ReactionImage::row(e, ReactionIndex(i));
-    let enabled = reaction.enabled_modes;
-    for k in 0..enabled.len {
-        let outcome = check_enabled_mode(e, i, reaction.reactor, enabled.start, k);
-        let Outcome::Passed = outcome else {
-            return outcome;
-        };
+    let reaction = e.row(key);
+    let SliceRange { start, len } = reaction.enabled_modes;
+    for k in 0..len {
+        check_enabled_mode(e, key, reaction.reactor, start, k)?;
     }
-    Outcome::Passed
+    Ok(())
 }
 
 // The enabled modes of every reaction.
-pub fn check_modes_of_reactions(e: Enclave) -> Outcome
-    ensures { let m = image_of e.entry in result ≡ first (run (enabled_modes_checks m) 0 (m.rows 5)) }
+pub fn check_modes_of_reactions(e: &Enclave) -> Result<(), Refusal>
+    ensures { let m = image_of e.now in result ≡ first (run (enabled_modes_checks m) 0 (m.rows 5)) }
 {
     for i in 0..e.rows(ReactionImage::TABLE) {
-        let outcome = check_modes_of_reaction(e, i);
-        let Outcome::Passed = outcome else {
-            return outcome;
-        };
+        check_modes_of_reaction(e, ReactionIndex(i))?;
     }
-    Outcome::Passed
+    Ok(())
 }
 
-// An entry's index is above that of the entry before.
+// An entry's action is above that of the entry before.
 #[tactic(auto, unfolding(answers::specs::Checks::first, crate::specs::ListTables::index_order_checks))]
-fn check_index_order(table: u8, index: u32, key: u32, before: u32) -> Outcome
-    ensures { result ≡ first (index_order_checks table index key before) }
+fn check_action_order(
+    table: u8,
+    index: u32,
+    action: ActionIndex,
+    before: ActionIndex,
+) -> Result<(), Refusal>
+    ensures { result ≡ first (index_order_checks table index action.0 before.0) }
 {
-    if key == before {
-        return Outcome::Refused(Refusal::DuplicateEntry { table, index });
+    if action == before {
+        return Err(Refusal::DuplicateEntry { table, index });
     }
-    if key < before {
-        return Outcome::Refused(Refusal::EntriesNotSorted { table, index });
+    if action < before {
+        return Err(Refusal::EntriesNotSorted { table, index });
     }
-    Outcome::Passed
+    Ok(())
 }
 
 // Entry i of the shutdown actions names an action that is there, above the one that the entry before names.
-#[tactic(auto, unfolding(answers::specs::Checks::first, crate::specs::ListTables::index_checks, crate::specs::ListTables::shutdown_action_checks))]
-fn check_shutdown_action(e: Enclave, i: u32) -> Outcome
-    ensures { result ≡ first (shutdown_action_checks (image_of e.entry) i) }
+#[tactic(auto, using(answers::proofs::Laws::list_laws), unfolding(answers::specs::Checks::first, crate::specs::ListTables::named_checks, crate::specs::ListTables::shutdown_action_checks))]
+fn check_shutdown_action(e: &Enclave, i: u32) -> Result<(), Refusal>
+    ensures { result ≡ first (shutdown_action_checks (image_of e.now) i) }
 {
     let table = ShutdownAction::TABLE;
-    let key = ShutdownAction::row(e, i as usize).0;
-    let found = check_action_ref(e.starts, table, i, field::ACTION, key);
-    let Found::Row(action, _) = found else {
-        return found.refused();
+    let action = e.row_at::<ShutdownAction>(i as usize).holds;
+    let at = RowField {
+        table,
+        index: i,
+        field: Field::Action,
     };
+    check_ref(e.starts, at, action)?;
     if i == 0 {
-        return Outcome::Passed;
+        return Ok(());
     }
-    let before = ShutdownAction::row(e, (i - 1) as usize).0;
-    check_index_order(table, i, action.0, before.0)
+    let before = e.row_at::<ShutdownAction>((i - 1) as usize).holds;
+    check_action_order(table, i, action, before)
 }
 
 // Every shutdown action.
-pub fn check_shutdown_actions(e: Enclave) -> Outcome
-    ensures { let m = image_of e.entry in result ≡ first (run (shutdown_action_checks m) 0 (m.rows 22)) }
+pub fn check_shutdown_actions(e: &Enclave) -> Result<(), Refusal>
+    ensures { let m = image_of e.now in result ≡ first (run (shutdown_action_checks m) 0 (m.rows 22)) }
 {
     for i in 0..e.rows(ShutdownAction::TABLE) {
-        let outcome = check_shutdown_action(e, i);
-        let Outcome::Passed = outcome else {
-            return outcome;
-        };
+        check_shutdown_action(e, i)?;
     }
-    Outcome::Passed
+    Ok(())
 }

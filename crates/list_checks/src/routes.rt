@@ -3,146 +3,150 @@ ghost use Rattle.std.specs.Prelude.{◌≡◌};
 ghost use Rattle.answers.specs.Checks.{first, run};
 ghost use Rattle.checks.specs.Image.{image_of, route_part};
 ghost use Rattle.checks.specs.Lists.{after_first};
-ghost use Rattle.schema.specs.Records.{direction_number};
 ghost use Rattle.schema.specs.Tables.{rows_of};
 ghost use Rattle.list_checks.specs.Routes.{route_order_checks, route_row, route_checks, binding_id_row, binding_id_checks};
 
-use crate::list_tables::check_port;
-use answers::{Outcome, Refusal, field, kind};
-use checks::Found;
+use answers::{Field, IdKind, Refusal, RowField, StableId};
 use checks::identities::{validate_text, validate_text_order};
+use checks::refs::check_exists;
+use identity::IdentityPlace;
 use identity::compare::compare_bytes;
-use identity::place::identity_text;
-use identity::{ByteOrder, IdentityPlace};
 use schema::index::{BindingSlotIndex, RouteDirection};
-use schema::lent::Enclave;
+use schema::lent::{Enclave, TableStarts};
+use schema::row::Row;
 use schema::rows::{RequiredBindingImage, RouteImage};
+use std::cmp::Ordering;
 
-// The number of a direction: 0 inbound, 1 outbound.
-pub fn direction_number(direction: RouteDirection) -> u8
-    ensures { result ≡ direction_number direction }
-{
-    direction.number()
+// What the row after a route is compared with: its boundary's text and its direction.
+#[derive(Clone, Copy)]
+struct Before<'a> {
+    text: &'a [u8],
+    direction: RouteDirection,
 }
 
 // A route against the one before it, if there is one: boundaries rise, and of one boundary the inbound half comes first.
 #[tactic(auto, unfolding(answers::specs::Checks::first, crate::specs::Routes::route_order_checks))]
 fn check_route_order(
-    i: u32,
+    index: u32,
     route: RouteImage,
     text: &[u8],
-    previous: &[u8],
-    previous_direction: RouteDirection,
-) -> Outcome
-    ensures { result ≡ first (after_first i (route_order_checks i route.boundary text.now route.direction previous.now previous_direction)) }
+    before: Before,
+) -> Result<(), Refusal>
+    ensures { result
+        ≡ first (after_first index (route_order_checks index route.boundary text.now route.direction before.entry.text.now before.entry.direction)) }
 {
-    if i == 0 {
-        return Outcome::Passed;
+    if index == 0 {
+        return Ok(());
     }
-    let boundary = route.boundary;
-    match compare_bytes(text, previous) {
-        ByteOrder::Less => Outcome::Refused(Refusal::StableIdsNotSorted {
-            kind: kind::BOUNDARY,
-            index: i,
-            id: boundary,
+    let RouteImage {
+        boundary,
+        direction,
+        ..
+    } = route;
+    match compare_bytes(text, before.text) {
+        Ordering::Less => Err(Refusal::StableIdsNotSorted {
+            id: StableId {
+                kind: IdKind::Boundary,
+                index,
+                id: boundary,
+            },
         }),
-        ByteOrder::Equal => match (previous_direction, route.direction) {
-            (RouteDirection::Inbound, RouteDirection::Outbound) => Outcome::Passed,
-            (RouteDirection::Outbound, RouteDirection::Inbound) => {
-                Outcome::Refused(Refusal::EntriesNotSorted {
-                    table: RouteImage::TABLE,
-                    index: i,
-                })
-            }
-            _ => Outcome::Refused(Refusal::DuplicateRouteHalf {
-                boundary,
-                direction: direction_number(route.direction),
-            }),
-        },
-        ByteOrder::Greater => Outcome::Passed,
+        Ordering::Equal if direction == before.direction => Err(Refusal::DuplicateRouteHalf {
+            boundary,
+            direction,
+        }),
+        Ordering::Equal if before.direction == RouteDirection::Outbound => {
+            Err(Refusal::EntriesNotSorted {
+                table: RouteImage::TABLE,
+                index,
+            })
+        }
+        _ => Ok(()),
     }
 }
 
-// Row i of the routes, with its boundary's text, and the text and the direction of the row before.
+// Row `index` of the routes, with its boundary's text, and what the row before left.
 #[tactic(auto, using(answers::proofs::Laws::list_laws), unfolding(answers::specs::Checks::first, crate::specs::Routes::route_row))]
 fn check_route(
-    e: Enclave,
-    i: u32,
+    starts: &TableStarts,
+    index: u32,
     route: RouteImage,
     text: &[u8],
-    previous: &[u8],
-    previous_direction: RouteDirection,
-) -> Outcome
-    ensures { result ≡ first (route_row (rows_of e.entry.starts.now) i (route_part route) text.now previous.now previous_direction) }
+    before: Before,
+) -> Result<(), Refusal>
+    ensures { let rows = rows_of starts.now.firsts
+        in result ≡ first (route_row rows index (route_part route) text.now before.entry.text.now before.entry.direction) }
 {
-    let valid = validate_text(kind::BOUNDARY, i, route.boundary, text);
-    let Outcome::Passed = valid else {
-        return valid;
+    let id = StableId {
+        kind: IdKind::Boundary,
+        index,
+        id: route.boundary,
     };
-    let order = check_route_order(i, route, text, previous, previous_direction);
-    let Outcome::Passed = order else {
-        return order;
+    validate_text(id, text)?;
+    check_route_order(index, route, text, before)?;
+    let at = RowField {
+        table: RouteImage::TABLE,
+        index,
+        field: Field::LocalPort,
     };
-    check_port(
-        e.starts,
-        RouteImage::TABLE,
-        i,
-        field::LOCAL_PORT,
-        route.local_port,
-    )
+    check_exists(starts, at, route.local_port)
 }
 
 // Every route. Row 0, which is compared with none, stands for the row before itself.
 #[tactic(auto, using(answers::proofs::Loops::run_laws), unfolding(crate::specs::Routes::route_checks))]
-pub fn check_routes(e: Enclave) -> Outcome
-    ensures { let m = image_of e.entry in result ≡ first (run (route_checks m) 0 (m.rows 23)) }
+pub fn check_routes(e: &Enclave) -> Result<(), Refusal>
+    ensures { let m = image_of e.now in result ≡ first (run (route_checks m) 0 (m.rows 23)) }
 {
-    let row = RouteImage::row(e, 0);
-    let mut previous = identity_text(e.batch, e.house, row.boundary);
-    let mut previous_direction = row.direction;
+    let row = e.row_at::<RouteImage>(0);
+    let mut before = Before {
+        text: e.texts.identity_text(row.boundary),
+        direction: row.direction,
+    };
     for i in 0..e.rows(RouteImage::TABLE) {
-        let route = RouteImage::row(e, i);
-        let text = identity_text(e.batch, e.house, route.boundary);
-        let outcome = check_route(e, i, route, text, previous, previous_direction);
-        let Outcome::Passed = outcome else {
-            return outcome;
+        let route = e.row_at::<RouteImage>(i as usize);
+        let text = e.texts.identity_text(route.boundary);
+        check_route(e.starts, i, route, text, before)?;
+        before = Before {
+            text,
+            direction: route.direction,
         };
-        previous = text;
-        previous_direction = route.direction;
     }
-    Outcome::Passed
+    Ok(())
 }
 
-// Row i of the required bindings, with its identity's text and that of the row before.
-#[tactic(auto, unfolding(answers::specs::Checks::first, crate::specs::Routes::binding_id_row))]
-fn check_binding_id(i: u32, id: IdentityPlace, text: &[u8], previous: &[u8]) -> Outcome
-    ensures { result ≡ first (binding_id_row i id text.now previous.now) }
+// A row of the required bindings, with its identity's text and that of the row before.
+#[tactic(auto, using(answers::proofs::Laws::list_laws), unfolding(answers::specs::Checks::first, crate::specs::Routes::binding_id_row))]
+fn check_binding_id(
+    index: u32,
+    id: IdentityPlace,
+    text: &[u8],
+    previous: &[u8],
+) -> Result<(), Refusal>
+    ensures { result ≡ first (binding_id_row index id text.now previous.now) }
 {
-    let valid = validate_text(kind::BINDING, i, id, text);
-    let Outcome::Passed = valid else {
-        return valid;
+    let id = StableId {
+        kind: IdKind::Binding,
+        index,
+        id,
     };
-    if i == 0 {
-        return Outcome::Passed;
+    validate_text(id, text)?;
+    if index == 0 {
+        return Ok(());
     }
-    validate_text_order(kind::BINDING, i, id, text, previous)
+    validate_text_order(id, text, previous)
 }
 
 // Every required binding. Row 0, which is compared with none, stands for the row before itself.
 #[tactic(auto, using(answers::proofs::Loops::run_laws), unfolding(crate::specs::Routes::binding_id_checks))]
-pub fn check_binding_ids(e: Enclave) -> Outcome
-    ensures { let m = image_of e.entry in result ≡ first (run (binding_id_checks m) 0 (m.rows 24)) }
+pub fn check_binding_ids(e: &Enclave) -> Result<(), Refusal>
+    ensures { let m = image_of e.now in result ≡ first (run (binding_id_checks m) 0 (m.rows 24)) }
 {
-    let row = RequiredBindingImage::row(e, BindingSlotIndex(0));
-    let mut previous = identity_text(e.batch, e.house, row.id);
+    let mut previous = e.texts.identity_text(e.row(BindingSlotIndex(0)).id);
     for i in 0..e.rows(RequiredBindingImage::TABLE) {
-        let binding = RequiredBindingImage::row(e, BindingSlotIndex(i));
-        let text = identity_text(e.batch, e.house, binding.id);
-        let outcome = check_binding_id(i, binding.id, text, previous);
-        let Outcome::Passed = outcome else {
-            return outcome;
-        };
+        let id = e.row(BindingSlotIndex(i)).id;
+        let text = e.texts.identity_text(id);
+        check_binding_id(i, id, text, previous)?;
         previous = text;
     }
-    Outcome::Passed
+    Ok(())
 }

@@ -1,9 +1,10 @@
 -- The checks of a row of actions: view.rs, the second row loop. Assumes nothing.
-use Rattle.std.specs.Prelude.{ℕ, Bool, true, false, List, [], ◌∷◌, ◌++◌}
+use Rattle.std.specs.Prelude.{ℕ, Bool, true, false, List, [], ◌∷◌, ◌++◌, Option, Some, None}
 use Rattle.answers.specs.declared.Refusal.TheVariants.{BindingPresenceMismatch}
 use Rattle.answers.specs.Fields.{row_field}
 use Rattle.answers.specs.declared.field.Field.TheVariants as field
 use Rattle.answers.specs.Checks.{Check, need}
+use Rattle.schema.specs.declared.index.BindingSlotIndex.{BindingSlotIndex}
 use Rattle.schema.specs.declared.index.BindingKind.TheVariants.{Action}
 use Rattle.schema.specs.declared.rows.RequiredBindingImage.{RequiredBindingImage}
 use Rattle.checks.specs.Image.{Image, ActionPart}
@@ -12,11 +13,11 @@ use Rattle.row_checks.specs.Bindings.{binding_checks}
 use Rattle.row_checks.specs.Reactors.{slot_checks}
 
 -- a standard action has a binding, a timer and a shutdown have none
-unfoldable pub action_binding_checks : (ℕ → ℕ) → (ℕ → RequiredBindingImage) → ℕ → Bool → MaybeBinding → List Check
-action_binding_checks rows bindings i true (Binding b) = binding_checks rows bindings 3 i field.Binding Action b.0
-action_binding_checks rows bindings i true NoBinding = need false (BindingPresenceMismatch (row_field 3 i field.Binding)) ∷ []
-action_binding_checks rows bindings i false (Binding b) = need false (BindingPresenceMismatch (row_field 3 i field.Binding)) ∷ []
-action_binding_checks rows bindings i false NoBinding = []
+unfoldable pub action_binding_checks : (ℕ → ℕ) → (ℕ → RequiredBindingImage) → ℕ → Bool → Option BindingSlotIndex → List Check
+action_binding_checks rows bindings i true (Some b) = binding_checks rows bindings 3 i field.Binding Action b.0
+action_binding_checks rows bindings i true None = need false (BindingPresenceMismatch (row_field 3 i field.Binding)) ∷ []
+action_binding_checks rows bindings i false (Some b) = need false (BindingPresenceMismatch (row_field 3 i field.Binding)) ∷ []
+action_binding_checks rows bindings i false None = []
 
 unfoldable pub action_row : Image → ℕ → ActionPart → ℕ → List Check
 action_row m i row previous =

@@ -1,19 +1,20 @@
 -- The checks of a row of modes: view.rs, the fifth row loop. Assumes nothing.
-use Rattle.std.specs.Prelude.{ℕ, Bool, false, List, [], ◌∷◌, eqb}
+use Rattle.std.specs.Prelude.{ℕ, Bool, false, List, [], ◌∷◌, eqb, Option, Some, None}
 use Rattle.range.specs.Range.{contains}
 use Rattle.answers.specs.declared.Refusal.TheVariants.{OwnershipMismatch}
 use Rattle.answers.specs.Fields.{row_field}
 use Rattle.answers.specs.declared.field.Field.TheVariants as field
 use Rattle.answers.specs.Checks.{Check, need}
+use Rattle.schema.specs.declared.index.ModeIndex.{ModeIndex}
 use Rattle.schema.specs.declared.rows.ModeImage.{ModeImage}
 use Rattle.schema.specs.declared.rows.ReactorImage.{ReactorImage}
 use Rattle.schema.specs.declared.rows.ScopeImage.{ScopeImage}
 use Rattle.checks.specs.Image.{Image}
 use Rattle.checks.specs.Refs.{ref_to}
 
-abbrev pub is_mode : ℕ → MaybeMode → Bool
-is_mode i NoMode = false
-is_mode i (Mode m) = eqb m.0 i
+abbrev pub is_mode : ℕ → Option ModeIndex → Bool
+is_mode i None = false
+is_mode i (Some m) = eqb m.0 i
 
 -- the scope is the mode's reactor's, and the mode's own; the reactor's span holds the mode
 unfoldable pub mode_owner_checks : ℕ → ModeImage → ReactorImage → ScopeImage → List Check

@@ -1,10 +1,11 @@
 -- The checks of a row of reactions: view.rs, the fourth row loop. Assumes nothing.
-use Rattle.std.specs.Prelude.{ℕ, List, [], ◌∷◌, ◌++◌, eqb}
+use Rattle.std.specs.Prelude.{ℕ, List, [], ◌∷◌, ◌++◌, eqb, Option, Some, None}
 use Rattle.answers.specs.declared.Refusal.TheVariants.{OwnershipMismatch}
 use Rattle.answers.specs.Fields.{row_field}
 use Rattle.answers.specs.declared.field.Field.TheVariants as field
 use Rattle.answers.specs.Checks.{Check, need}
 use Rattle.schema.specs.declared.index.BindingKind.TheVariants.{Reaction}
+use Rattle.schema.specs.declared.index.ModeIndex.{ModeIndex}
 use Rattle.schema.specs.declared.rows.ModeImage.{ModeImage}
 use Rattle.checks.specs.Image.{Image, ReactionPart}
 use Rattle.checks.specs.Refs.{ref_to, range_checks, range_end, end_before}
@@ -12,9 +13,9 @@ use Rattle.row_checks.specs.declared.reactions.ReactionEnds.{ReactionEnds}
 use Rattle.row_checks.specs.Bindings.{binding_checks}
 
 -- the target of a mode effect is there, and a mode of the reaction's reactor
-unfoldable pub effect_checks : (ℕ → ℕ) → (ℕ → ModeImage) → ℕ → ℕ → MaybeMode → List Check
-effect_checks rows modes i reactor NoMode = []
-effect_checks rows modes i reactor (Mode m) =
+unfoldable pub effect_checks : (ℕ → ℕ) → (ℕ → ModeImage) → ℕ → ℕ → Option ModeIndex → List Check
+effect_checks rows modes i reactor None = []
+effect_checks rows modes i reactor (Some m) =
     ref_to rows 5 i field.ModeEffectTarget 6 m.0
     ∷ need (eqb (modes m.0).reactor.0 reactor) (OwnershipMismatch (row_field 5 i field.ModeEffectTargetReactor))
     ∷ []

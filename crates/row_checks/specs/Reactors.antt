@@ -1,11 +1,13 @@
 -- The checks of a row of reactors: view.rs, the first row loop of `validate_enclave_const`. Assumes nothing.
-use Rattle.std.specs.Prelude.{ℕ, Bool, true, false, ◌&&◌, List, [], ◌∷◌, ◌++◌, ltb, eqb}
+use Rattle.std.specs.Prelude.{ℕ, ◌&&◌, List, [], ◌∷◌, ◌++◌, ltb, eqb, Option, Some, None, is_none}
 use Rattle.range.specs.declared.IndexSpan.{IndexSpan}
 use Rattle.range.specs.Range.{contains}
 use Rattle.answers.specs.declared.Refusal.TheVariants.{OwnershipMismatch, InvalidBankInfo, StorageBoundExceeded}
 use Rattle.answers.specs.Fields.{row_field}
 use Rattle.answers.specs.declared.field.Field.TheVariants as field
 use Rattle.answers.specs.Checks.{Check, need}
+use Rattle.schema.specs.declared.index.ModeIndex.{ModeIndex}
+use Rattle.schema.specs.declared.index.BankInfoImage.{BankInfoImage}
 use Rattle.schema.specs.declared.index.BindingKind.TheVariants.{StateInitializer}
 use Rattle.schema.specs.declared.rows.ReactorImage.{ReactorImage}
 use Rattle.schema.specs.declared.rows.ScopeImage.{ScopeImage}
@@ -17,28 +19,24 @@ use Rattle.row_checks.specs.Bindings.{binding_checks}
 unfoldable pub slot_checks : ℕ → ℕ → ℕ → ℕ → List Check
 slot_checks t bound i slot = need (ltb slot bound) (StorageBoundExceeded t i slot bound) ∷ []
 
-abbrev pub is_no_mode : MaybeMode → Bool
-is_no_mode NoMode = true
-is_no_mode (Mode m) = false
-
 -- the root scope is the reactor's own, and no mode's
 unfoldable pub root_scope_checks : (ℕ → ℕ) → (ℕ → ScopeImage) → ℕ → ℕ → List Check
 root_scope_checks rows scopes i v =
     ref_to rows 2 i field.RootScope 7 v
-    ∷ need (eqb (scopes v).reactor.0 i && is_no_mode (scopes v).mode) (OwnershipMismatch (row_field 2 i field.RootScope))
+    ∷ need (eqb (scopes v).reactor.0 i && is_none (scopes v).mode) (OwnershipMismatch (row_field 2 i field.RootScope))
     ∷ []
 
 -- the initial mode is there, and one of the reactor's
-unfoldable pub initial_mode_checks : (ℕ → ℕ) → ℕ → IndexSpan → MaybeMode → List Check
-initial_mode_checks rows i span NoMode = []
-initial_mode_checks rows i span (Mode m) =
+unfoldable pub initial_mode_checks : (ℕ → ℕ) → ℕ → IndexSpan → Option ModeIndex → List Check
+initial_mode_checks rows i span None = []
+initial_mode_checks rows i span (Some m) =
     ref_to rows 2 i field.InitialMode 6 m.0
     ∷ need (contains span.start span.len m.0) (OwnershipMismatch (row_field 2 i field.InitialMode))
     ∷ []
 
-unfoldable pub bank_checks : ℕ → MaybeBank → List Check
-bank_checks i NoBank = []
-bank_checks i (Bank b) = need (ltb b.index b.total) (InvalidBankInfo i b.index b.total) ∷ []
+unfoldable pub bank_checks : ℕ → Option BankInfoImage → List Check
+bank_checks i None = []
+bank_checks i (Some b) = need (ltb b.index b.total) (InvalidBankInfo i b.index b.total) ∷ []
 
 unfoldable pub reactor_row : Image → ℕ → ReactorImage → ℕ → List Check
 reactor_row m i row previous =

@@ -8,89 +8,59 @@ ghost use Rattle.row_checks.specs.Actions.{action_binding_checks, action_row, ac
 
 use crate::bindings::check_binding;
 use crate::reactors::check_slot;
-use answers::{Outcome, Refusal, field};
-use checks::Found;
-use checks::refs::{check_enclave_range, check_scope_ref};
-use schema::index::{ActionIndex, ActionTiming, BindingKind, MaybeBinding};
+use answers::{Field, Refusal, RowField};
+use checks::refs::{check_enclave_range, check_exists};
+use schema::entries::ReactionTrigger;
+use schema::index::{ActionIndex, ActionTiming, BindingKind, BindingSlotIndex};
 use schema::lent::Enclave;
-use schema::lists::ReactionTrigger;
+use schema::row::{Row, Stored};
 use schema::rows::{ActionImage, EnclaveImage};
-
-fn is_standard(timing: ActionTiming) -> bool
-    ensures { result ≡ is_standard timing }
-{
-    match timing {
-        ActionTiming::Standard { .. } => true,
-        ActionTiming::Timer { .. } => false,
-        ActionTiming::Shutdown => false,
-    }
-}
 
 // A standard action has a binding, a timer and a shutdown have none.
 #[tactic(auto, unfolding(answers::specs::Checks::first, crate::specs::Actions::action_binding_checks))]
-fn check_action_binding(e: Enclave, i: u32, standard: bool, binding: MaybeBinding) -> Outcome
-    ensures { let m = image_of e.entry in result ≡ first (action_binding_checks m.rows m.bindings i standard binding) }
+fn check_action_binding(
+    e: &Enclave,
+    key: ActionIndex,
+    timing: ActionTiming,
+    binding: Option<BindingSlotIndex>,
+) -> Result<(), Refusal>
+    ensures { let m = image_of e.now in result ≡ first (action_binding_checks m.rows m.bindings key.0 (is_standard timing) binding) }
 {
+    let at = RowField::of(key, Field::Binding);
+    let standard = matches!(timing, ActionTiming::Standard { .. });
     match (standard, binding) {
-        (true, MaybeBinding::Binding(key)) => {
-            check_binding(
-                e,
-                ActionImage::TABLE,
-                i,
-                field::BINDING,
-                BindingKind::Action,
-                key,
-            )
-        }
-        (false, MaybeBinding::NoBinding) => Outcome::Passed,
-        _ => Outcome::Refused(Refusal::BindingPresenceMismatch {
-            table: ActionImage::TABLE,
-            index: i,
-            field: field::BINDING,
-        }),
+        (true, Some(binding)) => check_binding(e, at, BindingKind::Action, binding),
+        (false, None) => Ok(()),
+        _ => Err(Refusal::BindingPresenceMismatch { at }),
     }
 }
 
-// Row i, where the triggers of the rows before end at `previous_end`.
-fn check_action_row(e: Enclave, i: u32, row: ActionImage, previous_end: u64) -> Outcome
-    ensures { result ≡ first (action_row (image_of e.entry) i (action_part row) previous_end) }
+// A row, where the triggers of the rows before end at `previous_end`.
+fn check_action_row(
+    e: &Enclave,
+    key: ActionIndex,
+    row: ActionImage,
+    previous_end: u64,
+) -> Result<(), Refusal>
+    ensures { result ≡ first (action_row (image_of e.now) key.0 (action_part row) previous_end) }
 {
-    let scope = check_scope_ref(e.starts, ActionImage::TABLE, i, field::SCOPE, row.scope);
-    let Found::Row(..) = scope else {
-        return scope.refused();
-    };
+    check_exists(e.starts, RowField::of(key, Field::Scope), row.scope)?;
     let bound = EnclaveImage::at(e.pack, e.own).storage_bounds.action_slots;
-    let slot = check_slot(ActionImage::TABLE, bound, i, row.storage_slot);
-    let Outcome::Passed = slot else {
-        return slot;
-    };
-    let binding = check_action_binding(e, i, is_standard(row.timing), row.binding);
-    let Outcome::Passed = binding else {
-        return binding;
-    };
-    check_enclave_range(
-        e.starts,
-        ActionImage::TABLE,
-        i,
-        field::TRIGGERS,
-        ReactionTrigger::TABLE,
-        row.triggers,
-        previous_end,
-    )
+    check_slot(ActionImage::TABLE, bound, key.0, row.storage_slot)?;
+    check_action_binding(e, key, row.timing, row.binding)?;
+    let at = RowField::of(key, Field::Triggers);
+    check_enclave_range::<ReactionTrigger>(e.starts, at, row.triggers, previous_end)
 }
 
 #[tactic(auto, using(answers::proofs::Loops::run_laws), unfolding(crate::specs::Actions::action_checks))]
-pub fn check_actions(e: Enclave) -> Outcome
-    ensures { let m = image_of e.entry in result ≡ first (run (action_checks m) 0 (m.rows 3)) }
+pub fn check_actions(e: &Enclave) -> Result<(), Refusal>
+    ensures { let m = image_of e.now in result ≡ first (run (action_checks m) 0 (m.rows 3)) }
 {
     let mut previous_end = 0;
     for i in 0..e.rows(ActionImage::TABLE) {
-        let row = ActionImage::row(e, ActionIndex(i));
-        let outcome = check_action_row(e, i, row, previous_end);
-        let Outcome::Passed = outcome else {
-            return outcome;
-        };
+        let row = e.row(ActionIndex(i));
+        check_action_row(e, ActionIndex(i), row, previous_end)?;
         previous_end = row.triggers.saturating_end();
     }
-    Outcome::Passed
+    Ok(())
 }

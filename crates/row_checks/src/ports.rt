@@ -7,56 +7,43 @@ ghost use Rattle.checks.specs.Image.{image_of};
 ghost use Rattle.row_checks.specs.Ports.{port_row, port_checks};
 
 use crate::bindings::check_binding;
-use answers::{Outcome, field};
-use checks::Found;
-use checks::refs::{check_enclave_range, check_scope_ref};
+use answers::{Field, Refusal, RowField};
+use checks::refs::{check_enclave_range, check_exists};
+use schema::entries::ReactionTrigger;
 use schema::index::{BindingKind, PortIndex};
 use schema::lent::Enclave;
-use schema::lists::ReactionTrigger;
+use schema::row::Row;
 use schema::rows::PortImage;
 
-// Row i, where the triggers of the rows before end at `previous_end`.
-fn check_port_row(e: Enclave, i: u32, row: PortImage, previous_end: u64) -> Outcome
-    ensures { result ≡ first (port_row (image_of e.entry) i row previous_end) }
+// A row, where the triggers of the rows before end at `previous_end`.
+fn check_port_row(
+    e: &Enclave,
+    key: PortIndex,
+    row: PortImage,
+    previous_end: u64,
+) -> Result<(), Refusal>
+    ensures { result ≡ first (port_row (image_of e.now) key.0 row previous_end) }
 {
-    let binding = check_binding(
-        e,
-        PortImage::TABLE,
-        i,
-        field::BINDING,
-        BindingKind::Port,
-        row.binding,
-    );
-    let Outcome::Passed = binding else {
-        return binding;
-    };
-    let scope = check_scope_ref(e.starts, PortImage::TABLE, i, field::SCOPE, row.scope);
-    let Found::Row(..) = scope else {
-        return scope.refused();
-    };
-    check_enclave_range(
+    let at = |field| RowField::of(key, field);
+    check_binding(e, at(Field::Binding), BindingKind::Port, row.binding)?;
+    check_exists(e.starts, at(Field::Scope), row.scope)?;
+    check_enclave_range::<ReactionTrigger>(
         e.starts,
-        PortImage::TABLE,
-        i,
-        field::TRIGGERS,
-        ReactionTrigger::TABLE,
+        at(Field::Triggers),
         row.triggers,
         previous_end,
     )
 }
 
 #[tactic(auto, using(answers::proofs::Loops::run_laws), unfolding(crate::specs::Ports::port_checks))]
-pub fn check_ports(e: Enclave) -> Outcome
-    ensures { let m = image_of e.entry in result ≡ first (run (port_checks m) 0 (m.rows 4)) }
+pub fn check_ports(e: &Enclave) -> Result<(), Refusal>
+    ensures { let m = image_of e.now in result ≡ first (run (port_checks m) 0 (m.rows 4)) }
 {
     let mut previous_end = 0;
     for i in 0..e.rows(PortImage::TABLE) {
-        let row = PortImage::row(e, PortIndex(i));
-        let outcome = check_port_row(e, i, row, previous_end);
-        let Outcome::Passed = outcome else {
-            return outcome;
-        };
+        let row = e.row(PortIndex(i));
+        check_port_row(e, PortIndex(i), row, previous_end)?;
         previous_end = row.triggers.saturating_end();
     }
-    Outcome::Passed
+    Ok(())
 }

@@ -7,13 +7,13 @@ ghost use Rattle.checks.specs.Image.{image_of, reaction_part, effect_target};
 ghost use Rattle.row_checks.specs.Reactions.{effect_checks, reaction_owner_checks, reaction_ends_of, no_reaction_ends, reaction_range_checks, reaction_row, reaction_checks};
 
 use crate::bindings::check_binding;
-use answers::{Outcome, Refusal, field};
-use checks::Found;
-use checks::refs::{check_enclave_range, check_mode_ref, check_reactor_ref, check_scope_ref};
-use schema::index::{BindingKind, MaybeModeEffect, ReactionIndex, ReactorIndex};
+use answers::{Field, Refusal, RowField};
+use checks::refs::{check_enclave_range, check_exists, check_ref};
+use schema::entries::{ReactionAction, ReactionEffectPort, ReactionMode, ReactionUsePort};
+use schema::index::{BindingKind, ModeEffect, ReactionIndex, ReactorIndex};
 use schema::lent::Enclave;
-use schema::lists::{ReactionAction, ReactionEffectPort, ReactionMode, ReactionUsePort};
-use schema::rows::{ModeImage, ReactionImage, ScopeImage};
+use schema::row::Row;
+use schema::rows::ReactionImage;
 
 // The ends of a reaction's four ranges.
 #[derive(Clone, Copy)]
@@ -48,164 +48,97 @@ fn ends_of(row: ReactionImage) -> ReactionEnds
     }
 }
 
-fn wrong_owner(i: u32, field: u8) -> Outcome
-    ensures { result ≡ Outcome.Refused (Refusal.OwnershipMismatch 5 i field) }
-{
-    Outcome::Refused(Refusal::OwnershipMismatch {
-        table: ReactionImage::TABLE,
-        index: i,
-        field,
-    })
-}
-
 // Reactor, scope and binding are there; the scope is the reactor's.
 #[tactic(auto, using(answers::proofs::Laws::list_laws), unfolding(answers::specs::Checks::first, crate::specs::Reactions::reaction_owner_checks))]
-fn check_reaction_owner(e: Enclave, i: u32, row: ReactionImage) -> Outcome
-    ensures { result ≡ first (reaction_owner_checks (image_of e.entry) i (reaction_part row)) }
+fn check_reaction_owner(e: &Enclave, key: ReactionIndex, row: ReactionImage) -> Result<(), Refusal>
+    ensures { result ≡ first (reaction_owner_checks (image_of e.now) key.0 (reaction_part row)) }
 {
-    let found = check_reactor_ref(
-        e.starts,
-        ReactionImage::TABLE,
-        i,
-        field::REACTOR,
-        row.reactor,
-    );
-    let Found::Row(reactor, _) = found else {
-        return found.refused();
-    };
-    let found = check_scope_ref(e.starts, ReactionImage::TABLE, i, field::SCOPE, row.scope);
-    let Found::Row(scope, _) = found else {
-        return found.refused();
-    };
-    let binding = check_binding(
-        e,
-        ReactionImage::TABLE,
-        i,
-        field::BINDING,
-        BindingKind::Reaction,
-        row.binding,
-    );
-    let Outcome::Passed = binding else {
-        return binding;
-    };
-    if ScopeImage::row(e, scope).reactor.0 == reactor.0 {
-        return Outcome::Passed;
+    let at = |field| RowField::of(key, field);
+    check_exists(e.starts, at(Field::Reactor), row.reactor)?;
+    let scope = check_ref(e.starts, at(Field::Scope), row.scope)?;
+    check_binding(e, at(Field::Binding), BindingKind::Reaction, row.binding)?;
+    if scope.row(e.pack).reactor == row.reactor {
+        return Ok(());
     }
-    wrong_owner(i, field::SCOPE_REACTOR)
+    Err(Refusal::OwnershipMismatch {
+        at: at(Field::ScopeReactor),
+    })
 }
 
 // The target of a mode effect is there, and a mode of the reactor.
 #[tactic(auto, unfolding(answers::specs::Checks::first, crate::specs::Reactions::effect_checks))]
-fn check_effect(e: Enclave, i: u32, reactor: ReactorIndex, effect: MaybeModeEffect) -> Outcome
-    ensures { let m = image_of e.entry in result ≡ first (effect_checks m.rows m.modes i reactor.0 (effect_target effect)) }
+fn check_effect(
+    e: &Enclave,
+    key: ReactionIndex,
+    reactor: ReactorIndex,
+    effect: Option<ModeEffect>,
+) -> Result<(), Refusal>
+    ensures { let m = image_of e.now in result ≡ first (effect_checks m.rows m.modes key.0 reactor.0 (effect_target effect)) }
 {
-    let MaybeModeEffect::Effect(effect) = effect else {
-        return Outcome::Passed;
+    let Some(effect) = effect else {
+        return Ok(());
     };
-    let found = check_mode_ref(
-        e.starts,
-        ReactionImage::TABLE,
-        i,
-        field::MODE_EFFECT_TARGET,
-        effect.target,
-    );
-    let Found::Row(target, _) = found else {
-        return found.refused();
-    };
-    if ModeImage::row(e, target).reactor.0 == reactor.0 {
-        return Outcome::Passed;
+    let at = RowField::of(key, Field::ModeEffectTarget);
+    let target = check_ref(e.starts, at, effect.target)?;
+    if target.row(e.pack).reactor == reactor {
+        return Ok(());
     }
-    wrong_owner(i, field::MODE_EFFECT_TARGET_REACTOR)
+    Err(Refusal::OwnershipMismatch {
+        at: RowField::of(key, Field::ModeEffectTargetReactor),
+    })
 }
 
 #[tactic(auto, using(answers::proofs::Laws::list_laws), unfolding(crate::specs::Reactions::reaction_range_checks))]
-fn check_reaction_ranges(e: Enclave, i: u32, row: ReactionImage, previous: ReactionEnds) -> Outcome
-    ensures { let m = image_of e.entry in result ≡ first (reaction_range_checks m.rows i (reaction_part row) previous) }
+fn check_reaction_ranges(
+    e: &Enclave,
+    key: ReactionIndex,
+    row: ReactionImage,
+    previous: ReactionEnds,
+) -> Result<(), Refusal>
+    ensures { let m = image_of e.now in result ≡ first (reaction_range_checks m.rows key.0 (reaction_part row) previous) }
 {
-    let table = ReactionImage::TABLE;
-    let uses = check_enclave_range(
-        e.starts,
-        table,
-        i,
-        field::USE_PORTS,
-        ReactionUsePort::TABLE,
-        row.use_ports,
-        previous.uses,
-    );
-    let Outcome::Passed = uses else {
-        return uses;
-    };
-    let target = ReactionEffectPort::TABLE;
-    let effects = check_enclave_range(
-        e.starts,
-        table,
-        i,
-        field::EFFECT_PORTS,
-        target,
+    let at = |field| RowField::of(key, field);
+    let s = e.starts;
+    check_enclave_range::<ReactionUsePort>(s, at(Field::UsePorts), row.use_ports, previous.uses)?;
+    check_enclave_range::<ReactionEffectPort>(
+        s,
+        at(Field::EffectPorts),
         row.effect_ports,
         previous.effects,
-    );
-    let Outcome::Passed = effects else {
-        return effects;
-    };
-    let actions = check_enclave_range(
-        e.starts,
-        table,
-        i,
-        field::ACTIONS,
-        ReactionAction::TABLE,
-        row.actions,
-        previous.actions,
-    );
-    let Outcome::Passed = actions else {
-        return actions;
-    };
-    check_enclave_range(
-        e.starts,
-        table,
-        i,
-        field::ENABLED_MODES,
-        ReactionMode::TABLE,
+    )?;
+    check_enclave_range::<ReactionAction>(s, at(Field::Actions), row.actions, previous.actions)?;
+    check_enclave_range::<ReactionMode>(
+        s,
+        at(Field::EnabledModes),
         row.enabled_modes,
         previous.enabled,
     )
 }
 
-// Row i, where the ranges of the rows before end at `previous`.
+// A row, where the ranges of the rows before end at `previous`.
 #[tactic(auto, using(answers::proofs::Laws::list_laws), unfolding(crate::specs::Reactions::reaction_row))]
-fn check_reaction_row(e: Enclave, i: u32, row: ReactionImage, previous: ReactionEnds) -> Outcome
-    ensures { result ≡ first (reaction_row (image_of e.entry) i (reaction_part row) previous) }
+fn check_reaction_row(
+    e: &Enclave,
+    key: ReactionIndex,
+    row: ReactionImage,
+    previous: ReactionEnds,
+) -> Result<(), Refusal>
+    ensures { result ≡ first (reaction_row (image_of e.now) key.0 (reaction_part row) previous) }
 {
-    let owner = check_reaction_owner(e, i, row);
-    let Outcome::Passed = owner else {
-        return owner;
-    };
-    let effect = check_effect(e, i, row.reactor, row.mode_effect);
-    let Outcome::Passed = effect else {
-        return effect;
-    };
-    check_reaction_ranges(e, i, row, previous)
+    check_reaction_owner(e, key, row)?;
+    check_effect(e, key, row.reactor, row.mode_effect)?;
+    check_reaction_ranges(e, key, row, previous)
 }
 
 #[tactic(auto, using(answers::proofs::Loops::run_laws), unfolding(crate::specs::Reactions::reaction_checks, crate::specs::Reactions::reaction_ends_before))]
-pub fn check_reactions(e: Enclave) -> Outcome
-    ensures { let m = image_of e.entry in result ≡ first (run (reaction_checks m) 0 (m.rows 5)) }
+pub fn check_reactions(e: &Enclave) -> Result<(), Refusal>
+    ensures { let m = image_of e.now in result ≡ first (run (reaction_checks m) 0 (m.rows 5)) }
 {
     let mut previous = no_ends();
     for i in 0..e.rows(ReactionImage::TABLE) {
-        let row = ReactionImage::row(e, ReactionIndex(i));
-        let outcome = check_reaction_row(e, i, row, previous);
-        let Outcome::Passed = outcome else {
-            return outcome;
-        };
+        let row = e.row(ReactionIndex(i));
+        check_reaction_row(e, ReactionIndex(i), row, previous)?;
         previous = ends_of(row);
     }
-    Outcome::Passed
-}
-
-// The rows one by one.
-pub fn check_each(e: Enclave) -> Outcome
-    ensures { let m = image_of e.entry in result ≡ first (run (reaction_checks m) 0 (m.rows 5)) }
-{
-    check_reactions(e)
+    Ok(())
 }

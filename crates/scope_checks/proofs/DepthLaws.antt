@@ -25,6 +25,3 @@ zeros (suc n) (suc i) = zeros n i
 pub known_none : (m : Image) (n : ℕ) → Known m (replicate n 0)
 unfolding Known
 known_none m n i h = absurd (omega (arith, zeros n i))
-
-pub known_empty : (m : Image) → Known m []
-known_empty m = known_none m 0

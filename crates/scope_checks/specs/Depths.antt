@@ -1,13 +1,13 @@
 -- Depths of scopes, for the walk that finds each scope's links once. Only inner functions' contracts use them: no promise does. Assumes nothing.
-use Rattle.std.specs.Prelude.{ℕ, ◌+◌, ◌<◌, List, ◌≡◌, get_or}
-use Rattle.answers.specs.Checks.{first, run}
+use Rattle.std.specs.Prelude.{ℕ, ◌+◌, ◌<◌, List, ◌≡◌, get_or, Result}
+use Rattle.answers.specs.declared.Refusal.{Refusal}
+use Rattle.answers.specs.Checks.{first, run, answer_of}
 use Rattle.checks.specs.Image.{Image}
-use Rattle.scope_checks.specs.Links.{links_of, parents, links, cycle_checks, parents_answer}
-use Rattle.scope_checks.specs.declared.links.Parents.{Parents}
+use Rattle.scope_checks.specs.Links.{links_of, parents, links, cycle_checks}
 
 -- what `check_parents` promises, for the functions that it chooses from
-abbrev pub all_parents : Image → Parents
-all_parents m = parents_answer (first (run (cycle_checks m) 0 (m.rows 7))) (links m)
+abbrev pub all_parents : Image → Result ℕ Refusal
+all_parents m = answer_of (first (run (cycle_checks m) 0 (m.rows 7))) (links m)
 
 -- a depth is 0, not known yet, or one more than the scope's links
 unfoldable pub Known : Image → List ℕ → Type 0

@@ -2,7 +2,7 @@
 -- them on. Assumes nothing.
 use Rattle.std.specs.Prelude.{ℕ, ◌-◌, cond, List, ◌++◌, eqb, Ok, Err}
 use Rattle.answers.specs.declared.field.Field.TheVariants as field
-use Rattle.answers.specs.Checks.{Check, Outcome, passed}
+use Rattle.answers.specs.Checks.{Check, Outcome}
 use Rattle.schema.specs.declared.rows.ScopeImage.{ScopeImage}
 use Rattle.checks.specs.Refs.{range_checks, range_end}
 use Rattle.scope_checks.specs.declared.ends.ScopeEnds.{ScopeEnds}

@@ -2,21 +2,21 @@
 #![tactic(auto)]
 
 ghost use Rattle.std.specs.Prelude.{◌≡◌};
-ghost use Rattle.answers.specs.Checks.{first};
-ghost use Rattle.schema.specs.Tables.{rows_of, IsRising};
+ghost use Rattle.answers.specs.Checks.{first, answer_of};
+ghost use Rattle.schema.specs.Tables.{rows_of};
 ghost use Rattle.checks.specs.Image.{image_of};
 ghost use Rattle.scope_checks.specs.Ends.{ends_of, ends_after, no_ends, member_range_checks, reaction_range_checks, scope_range_checks};
 ghost use Rattle.scope_checks.specs.Scopes.{scope_row_checks};
 
 use crate::owners::check_scope_owner;
-use answers::{Outcome, field};
+use answers::{Field, Refusal, RowField};
 use checks::refs::check_enclave_range;
-use schema::index::ScopeIndex;
-use schema::lent::{Enclave, TableStarts};
-use schema::lists::{
+use schema::entries::{
     ScopeDescendant, ScopeLogicalAction, ScopeResetReaction, ScopeShutdownReaction,
     ScopeStartupReaction, ScopeTimerStartup,
 };
+use schema::index::ScopeIndex;
+use schema::lent::{Enclave, TableStarts};
 use schema::rows::ScopeImage;
 
 // One running end for each range of a row.
@@ -28,13 +28,6 @@ pub struct ScopeEnds {
     pub reset_reactions: u64,
     pub startup_reactions: u64,
     pub shutdown_reactions: u64,
-}
-
-// A row's answer, and the ends after it: as they were where the row is refused.
-#[derive(Clone, Copy)]
-pub struct EndsAnswer {
-    pub ends: ScopeEnds,
-    pub answer: Outcome,
 }
 
 // The ends before the first row.
@@ -65,159 +58,107 @@ fn ends_of(row: ScopeImage) -> ScopeEnds
     }
 }
 
-// The ranges of scopes and actions of row i.
+// The ranges of scopes and actions of a row.
 #[tactic(auto, using(answers::proofs::Laws::list_laws), unfolding(crate::specs::Ends::member_range_checks))]
-fn check_member_ranges(starts: &TableStarts, i: u32, row: ScopeImage, ends: ScopeEnds) -> Outcome
-    requires { IsRising starts.now }
-    ensures { result ≡ first (member_range_checks (rows_of starts.now) i row ends) }
+fn check_member_ranges(
+    s: &TableStarts,
+    key: ScopeIndex,
+    row: ScopeImage,
+    ends: ScopeEnds,
+) -> Result<(), Refusal>
+    ensures { result ≡ first (member_range_checks (rows_of s.now.firsts) key.0 row ends) }
 {
-    let descendants = check_enclave_range(
-        starts,
-        ScopeImage::TABLE,
-        i,
-        field::DESCENDANTS,
-        ScopeDescendant::TABLE,
+    let at = |field| RowField::of(key, field);
+    check_enclave_range::<ScopeDescendant>(
+        s,
+        at(Field::Descendants),
         row.descendants,
         ends.descendants,
-    );
-    let Outcome::Passed = descendants else {
-        return descendants;
-    };
-    let actions = check_enclave_range(
-        starts,
-        ScopeImage::TABLE,
-        i,
-        field::LOGICAL_ACTIONS,
-        ScopeLogicalAction::TABLE,
+    )?;
+    check_enclave_range::<ScopeLogicalAction>(
+        s,
+        at(Field::LogicalActions),
         row.logical_actions,
         ends.logical_actions,
-    );
-    let Outcome::Passed = actions else {
-        return actions;
-    };
-    check_enclave_range(
-        starts,
-        ScopeImage::TABLE,
-        i,
-        field::TIMER_STARTUPS,
-        ScopeTimerStartup::TABLE,
+    )?;
+    check_enclave_range::<ScopeTimerStartup>(
+        s,
+        at(Field::TimerStartups),
         row.timer_startups,
         ends.timer_startups,
     )
 }
 
-// The ranges of reactions of row i.
+// The ranges of reactions of a row.
 #[tactic(auto, using(answers::proofs::Laws::list_laws), unfolding(crate::specs::Ends::reaction_range_checks))]
-fn check_reaction_ranges(starts: &TableStarts, i: u32, row: ScopeImage, ends: ScopeEnds) -> Outcome
-    requires { IsRising starts.now }
-    ensures { result ≡ first (reaction_range_checks (rows_of starts.now) i row ends) }
+fn check_reaction_ranges(
+    s: &TableStarts,
+    key: ScopeIndex,
+    row: ScopeImage,
+    ends: ScopeEnds,
+) -> Result<(), Refusal>
+    ensures { result ≡ first (reaction_range_checks (rows_of s.now.firsts) key.0 row ends) }
 {
-    let reset = check_enclave_range(
-        starts,
-        ScopeImage::TABLE,
-        i,
-        field::RESET_REACTIONS,
-        ScopeResetReaction::TABLE,
+    let at = |field| RowField::of(key, field);
+    check_enclave_range::<ScopeResetReaction>(
+        s,
+        at(Field::ResetReactions),
         row.reset_reactions,
         ends.reset_reactions,
-    );
-    let Outcome::Passed = reset else {
-        return reset;
-    };
-    let startup = check_enclave_range(
-        starts,
-        ScopeImage::TABLE,
-        i,
-        field::STARTUP_REACTIONS,
-        ScopeStartupReaction::TABLE,
+    )?;
+    check_enclave_range::<ScopeStartupReaction>(
+        s,
+        at(Field::StartupReactions),
         row.startup_reactions,
         ends.startup_reactions,
-    );
-    let Outcome::Passed = startup else {
-        return startup;
-    };
-    check_enclave_range(
-        starts,
-        ScopeImage::TABLE,
-        i,
-        field::SHUTDOWN_REACTIONS,
-        ScopeShutdownReaction::TABLE,
+    )?;
+    check_enclave_range::<ScopeShutdownReaction>(
+        s,
+        at(Field::ShutdownReactions),
         row.shutdown_reactions,
         ends.shutdown_reactions,
     )
 }
 
-// The ranges of row i, in their order.
+// The ranges of a row against the running ends, by value: the ends after it where it passes.
 #[tactic(auto, using(answers::proofs::Laws::list_laws))]
-fn check_scope_ranges(starts: &TableStarts, i: u32, row: ScopeImage, ends: ScopeEnds) -> Outcome
-    requires { IsRising starts.now }
-    ensures { result ≡ first (scope_range_checks (rows_of starts.now) i row ends) }
+pub fn moved_ends(
+    starts: &TableStarts,
+    key: ScopeIndex,
+    row: ScopeImage,
+    ends: ScopeEnds,
+) -> Result<ScopeEnds, Refusal>
+    ensures { result ≡ answer_of (first (scope_range_checks (rows_of starts.now.firsts) key.0 row ends)) (ends_of row) }
 {
-    let members = check_member_ranges(starts, i, row, ends);
-    let Outcome::Passed = members else {
-        return members;
-    };
-    check_reaction_ranges(starts, i, row, ends)
+    check_member_ranges(starts, key, row, ends)?;
+    check_reaction_ranges(starts, key, row, ends)?;
+    Ok(ends_of(row))
 }
 
-// An answer for a row, with the ends that come after it.
-#[inline(always)]
-fn ends_answer(answer: Outcome, row: ScopeImage, ends: ScopeEnds) -> EndsAnswer
-    ensures answer { result.answer ≡ answer }
-    ensures moved { result.ends ≡ ends_after answer row ends }
+// A row by value: its references, then its ranges.
+#[tactic(auto, using(answers::proofs::Laws::list_laws, crate::proofs::EndsLaws::answer_laws), unfolding(crate::specs::Scopes::scope_row_checks))]
+pub fn moved_row(
+    e: &Enclave,
+    key: ScopeIndex,
+    row: ScopeImage,
+    ends: ScopeEnds,
+) -> Result<ScopeEnds, Refusal>
+    ensures { result ≡ answer_of (first (scope_row_checks (image_of e.now) key.0 row ends)) (ends_of row) }
 {
-    let Outcome::Passed = answer else {
-        return EndsAnswer { ends, answer };
-    };
-    EndsAnswer {
-        ends: ends_of(row),
-        answer,
-    }
+    check_scope_owner(e, key, row)?;
+    moved_ends(e.starts, key, row, ends)
 }
 
-// The ranges of row i against the running ends, by value.
-pub fn moved_ends(starts: &TableStarts, i: u32, row: ScopeImage, ends: ScopeEnds) -> EndsAnswer
-    requires { IsRising starts.now }
-    ensures answer { result.answer ≡ first (scope_range_checks (rows_of starts.now) i row ends) }
-    ensures moved { result.ends ≡ ends_after result.answer row ends }
-{
-    ends_answer(check_scope_ranges(starts, i, row, ends), row, ends)
-}
-
-// Row i against the running ends: its references, then its ranges.
-#[tactic(auto, using(answers::proofs::Laws::list_laws), unfolding(crate::specs::Scopes::scope_row_checks))]
-fn check_row(e: Enclave, i: u32, row: ScopeImage, ends: ScopeEnds) -> Outcome
-    ensures { result ≡ first (scope_row_checks (image_of e.entry) i row ends) }
-{
-    let owner = check_scope_owner(e, i, row);
-    let Outcome::Passed = owner else {
-        return owner;
-    };
-    check_scope_ranges(e.starts, i, row, ends)
-}
-
-// Row i by value.
-pub fn moved_row(e: Enclave, i: u32, row: ScopeImage, ends: ScopeEnds) -> EndsAnswer
-    ensures answer { result.answer ≡ first (scope_row_checks (image_of e.entry) i row ends) }
-    ensures moved { result.ends ≡ ends_after result.answer row ends }
-{
-    ends_answer(check_row(e, i, row, ends), row, ends)
-}
-
-// Row i as it stands in the pack, by value.
-pub fn scope_row_by(e: Enclave, i: u32, ends: ScopeEnds) -> EndsAnswer
-    ensures answer { let m = image_of e.entry in result.answer ≡ first (scope_row_checks m i (m.scopes i) ends) }
-    ensures moved { result.ends ≡ ends_after result.answer ((image_of e.entry).scopes i) ends }
-{
-    moved_row(e, i, ScopeImage::row(e, ScopeIndex(i)), ends)
-}
-
-// Row i, with the ends moved on where they stand.
-pub fn check_scope_row(e: Enclave, i: u32, row: ScopeImage, ends: &mut ScopeEnds) -> Outcome
-    ensures answer { result ≡ first (scope_row_checks (image_of e.entry) i row ends.old) }
+// A row, with the ends moved on where they stand; where it is refused they stay.
+pub fn check_scope_row(
+    e: &Enclave,
+    key: ScopeIndex,
+    row: ScopeImage,
+    ends: &mut ScopeEnds,
+) -> Result<(), Refusal>
+    ensures answer { result ≡ first (scope_row_checks (image_of e.now) key.0 row ends.old) }
     ensures moved { ends.new ≡ ends_after result row ends.old }
 {
-    let moved = moved_row(e, i, row, *ends);
-    *ends = moved.ends;
-    moved.answer
+    *ends = moved_row(e, key, row, *ends)?;
+    Ok(())
 }

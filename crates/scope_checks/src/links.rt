@@ -4,14 +4,14 @@
 
 ghost use Rattle.std.specs.Prelude.{◌≡◌, ◌+◌, ◌≤◌, get_or};
 ghost use Rattle.checks.specs.Image.{image_of};
-ghost use Rattle.scope_checks.specs.Links.{links_of, links, parents, cycle_checks, parents_answer};
+ghost use Rattle.scope_checks.specs.Links.{links_of, links, parents, cycle_checks};
 ghost use Rattle.scope_checks.specs.Depths.{Known, all_parents};
-ghost use Rattle.answers.specs.Checks.{first, run};
+ghost use Rattle.answers.specs.Checks.{first, run, answer_of};
 
 use answers::Refusal;
-use schema::index::{MaybeScope, ScopeIndex};
+use schema::index::ScopeIndex;
 use schema::lent::Enclave;
-use schema::parts::scope_parent_at;
+use schema::row::Row;
 use schema::rows::ScopeImage;
 
 // Room for the depths of few scopes, of many, and of as many as a pack has records: 256 bytes, 16 KiB and 256 KiB of stack.
@@ -21,37 +21,25 @@ const MANY: usize = 4096;
 
 const MOST: usize = 65536;
 
-// The links of all scopes, or the first cycle.
-#[derive(Clone, Copy)]
-pub enum Parents {
-    Links(u64),
-    Refused(Refusal),
-}
-
 // The depth of a scope. None past the array is ever known: the answers are right with an array of any length.
 fn depth_of(depths: &[u32], scope: ScopeIndex) -> u32
     ensures { result ≡ get_or depths.now scope.0 0 }
 {
-    let at = scope.0 as usize;
-    if at < depths.len() {
-        return depths[at];
-    }
-    0
+    depths.get(scope.0 as usize).copied().unwrap_or(0)
 }
 
 // The parent of a scope.
-#[inline(always)]
-pub fn parent_of(e: Enclave, scope: ScopeIndex) -> MaybeScope
-    ensures { result ≡ parents (image_of e.entry) scope.0 }
+pub fn parent_of(e: &Enclave, scope: ScopeIndex) -> Option<ScopeIndex>
+    ensures { result ≡ parents (image_of e.now) scope.0 }
 {
-    scope_parent_at(e.pack, e.record(ScopeImage::TABLE, scope.0 as usize))
+    e.row(scope).parent
 }
 
 // The links of a scope: parents followed until none, or until as many as there are scopes. It ends at the first whose depth is known.
 #[tactic(auto, using(crate::proofs::LinksLaws::followed_laws), unfolding(crate::specs::Depths::Known))]
-fn links_by(e: Enclave, depths: &[u32], scope: ScopeIndex) -> u32
-    requires { Known (image_of e) depths.now }
-    ensures { let m = image_of e.entry in result ≡ links_of (parents m) (m.rows 7) scope.0 }
+fn links_by(e: &Enclave, depths: &[u32], scope: ScopeIndex) -> u32
+    requires { Known (image_of e.now) depths.now }
+    ensures { let m = image_of e.now in result ≡ links_of (parents m) (m.rows 7) scope.0 }
 {
     let scopes = e.rows(ScopeImage::TABLE);
     let mut at = scope;
@@ -60,7 +48,7 @@ fn links_by(e: Enclave, depths: &[u32], scope: ScopeIndex) -> u32
         if depth != 0 {
             return followed + (depth - 1).min(scopes - followed);
         }
-        let MaybeScope::Scope(parent) = parent_of(e, at) else {
+        let Some(parent) = parent_of(e, at) else {
             return followed;
         };
         at = parent;
@@ -68,25 +56,17 @@ fn links_by(e: Enclave, depths: &[u32], scope: ScopeIndex) -> u32
     scopes
 }
 
-// The same where no depth is known.
-#[tactic(auto, using(crate::proofs::DepthLaws::known_empty))]
-pub fn links_of(e: Enclave, scope: ScopeIndex) -> u32
-    ensures { let m = image_of e.entry in result ≡ links_of (parents m) (m.rows 7) scope.0 }
-{
-    links_by(e, &[0u32; 0], scope)
-}
-
 // Writes the depth of a scope and those of the scopes above it, up to the first that is known.
 #[tactic(auto, using(crate::proofs::LinksLaws::followed_laws, crate::proofs::DepthLaws::known_set))]
-fn settle(e: Enclave, depths: &mut [u32], mut scope: ScopeIndex, mut depth: u32)
-    requires known { Known (image_of e) depths.old }
-    requires links { let m = image_of e in depth ≡ links_of (parents m) (m.rows 7) scope.0 + 1 }
-    requires ends { let m = image_of e in depth ≤ m.rows 7 }
-    ensures { Known (image_of e.entry) depths.new }
+fn settle(e: &Enclave, depths: &mut [u32], mut scope: ScopeIndex, mut depth: u32)
+    requires known { Known (image_of e.now) depths.old }
+    requires links { let m = image_of e.now in depth ≡ links_of (parents m) (m.rows 7) scope.0 + 1 }
+    requires ends { let m = image_of e.now in depth ≤ m.rows 7 }
+    ensures { Known (image_of e.now) depths.new }
 {
     while (scope.0 as usize) < depths.len() && depths[scope.0 as usize] == 0 {
         depths[scope.0 as usize] = depth;
-        let MaybeScope::Scope(parent) = parent_of(e, scope) else {
+        let Some(parent) = parent_of(e, scope) else {
             return;
         };
         scope = parent;
@@ -96,50 +76,44 @@ fn settle(e: Enclave, depths: &mut [u32], mut scope: ScopeIndex, mut depth: u32)
 
 // The parents of every scope. Scopes past the depths' array are walked to the end each time.
 #[tactic(auto, using(answers::proofs::Loops::run_laws, crate::proofs::LinksLaws::below_laws), unfolding(crate::specs::Links::links_below))]
-fn follow_parents(e: Enclave, depths: &mut [u32]) -> Parents
-    requires { Known (image_of e) depths.old }
-    ensures { result ≡ all_parents (image_of e.entry) }
+fn follow_parents(e: &Enclave, depths: &mut [u32]) -> Result<u64, Refusal>
+    requires { Known (image_of e.now) depths.old }
+    ensures { result ≡ all_parents (image_of e.now) }
 {
     let scopes = e.rows(ScopeImage::TABLE);
     let mut links: u64 = 0;
     for i in 0..scopes {
         let followed = links_by(e, depths, ScopeIndex(i));
         if followed >= scopes {
-            return Parents::Refused(Refusal::ScopeParentCycle { scope: i });
+            return Err(Refusal::ScopeParentCycle { scope: i });
         }
         settle(e, depths, ScopeIndex(i), followed + 1);
-        links += followed as u64;
+        links += u64::from(followed);
     }
-    Parents::Links(links)
+    Ok(links)
 }
 
 // With room for N depths. The array is in this function's frame, and in no caller's: smaller images do not pay for it.
 #[tactic(auto, using(crate::proofs::DepthLaws::known_none))]
 #[inline(never)]
-fn follow_with<const N: usize>(e: Enclave) -> Parents
+fn follow_with<const N: usize>(e: &Enclave) -> Result<u64, Refusal>
     requires { N ≤ 65536 }
-    ensures { result ≡ all_parents (image_of e.entry) }
+    ensures { result ≡ all_parents (image_of e.now) }
 {
     follow_parents(e, &mut [0u32; N])
 }
 
-// The parents of every scope: the links followed, or the first scope whose parents do not end.
-pub fn check_parents(e: Enclave) -> Parents
-    ensures { let m = image_of e.entry in result ≡ parents_answer (first (run (cycle_checks m) 0 (m.rows 7))) (links m) }
-{
-    check_parents_once(e)
-}
-
-// Each scope's links found once, with room for as many depths as there are scopes.
-pub fn check_parents_once(e: Enclave) -> Parents
-    ensures { result ≡ all_parents (image_of e.entry) }
+// The parents of every scope: the links followed, or the first scope whose parents do not end. Each scope's links are found once, with room for
+// as many depths as there are scopes.
+pub fn check_parents(e: &Enclave) -> Result<u64, Refusal>
+    ensures { let m = image_of e.now in result ≡ answer_of (first (run (cycle_checks m) 0 (m.rows 7))) (links m) }
 {
     let scopes = e.rows(ScopeImage::TABLE) as usize;
     if scopes <= FEW {
-        return follow_with::<FEW>(e);
+        follow_with::<FEW>(e)
+    } else if scopes <= MANY {
+        follow_with::<MANY>(e)
+    } else {
+        follow_with::<MOST>(e)
     }
-    if scopes <= MANY {
-        return follow_with::<MANY>(e);
-    }
-    follow_with::<MOST>(e)
 }

@@ -9,4 +9,4 @@ abbrev pub invariant-loop-i : goal.invariant-loop-i
 invariant-loop-i l =
     let m = image_of l.e in
     Remaining (route_checks m) l.i (m.rows 23)
-    × ((l.previous ≡ m.text (m.routes (l.i - 1)).boundary) × (l.previous_direction ≡ (m.routes (l.i - 1)).direction))
+    × ((l.before.text.now ≡ m.text (m.routes (l.i - 1)).boundary) × (l.before.direction ≡ (m.routes (l.i - 1)).direction))

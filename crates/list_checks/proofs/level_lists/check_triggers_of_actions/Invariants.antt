@@ -1,8 +1,0 @@
--- The triggers of the actions from i on are left.
-use Rattle.answers.proofs.Loops.{Remaining}
-use Rattle.checks.specs.Image.{image_of}
-use Rattle.list_checks.specs.ListTables.{action_trigger_checks}
-use Rattle.list_checks.proofs.level_lists.check_triggers_of_actions.Given as goal
-
-abbrev pub invariant-loop-i : goal.invariant-loop-i
-invariant-loop-i l = let m = image_of l.e in Remaining (action_trigger_checks m) l.i (m.rows 3)
