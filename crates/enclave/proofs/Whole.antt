@@ -1,22 +1,20 @@
 -- The whole order of the enclave's checks, as the code goes through it, and the answer at each place where it can stop. Assumes nothing.
 use Rattle.std.proofs.Common.{ℕ, ◌≡◌, refl, ◌∙◌, ap, sym, List, [], ◌∷◌, ◌++◌, append_assoc}
+use Rattle.std.specs.Prelude.{Result, Ok, Err}
 use Rattle.std.proofs.lemmas.List.{append-nil}
 use Rattle.answers.specs.declared.Refusal.{Refusal}
-use Rattle.answers.specs.declared.Outcome.{Outcome}
-use Rattle.answers.specs.declared.Outcome.TheVariants.{Passed, Refused}
-use Rattle.answers.specs.Checks.{Check, first, run}
-use Rattle.answers.proofs.Laws.{first_past, first_stops}
-use Rattle.checks.specs.Image.{Image, image}
+use Rattle.answers.specs.Checks.{Check, first, run, Outcome, passed, answer_of}
+use Rattle.answers.proofs.Laws.{first_past, first_stops, answered, not_answered}
+use Rattle.schema.specs.declared.lent.Enclave as lent
+use Rattle.packing.specs.Starts.{table_starts}
+use Rattle.checks.specs.Image.{Image, image_of}
 use Rattle.packing.specs.declared.PackKind.TheVariants.{Enclave}
 use Rattle.packing.specs.Packing.{packing_checks}
-use Rattle.scope_checks.specs.declared.links.Parents.TheVariants as parents
 use Rattle.scope_checks.specs.Scopes.{scope_checks}
-use Rattle.scope_checks.specs.Links.{cycle_checks, links, parents_answer}
+use Rattle.scope_checks.specs.Links.{cycle_checks, links}
 use Rattle.enclave.specs.Passes.{Pass, head_passes, table_passes, row_passes, scope_passes, reaction_list_passes, scope_list_passes, entry_passes, enclave_list_passes, list_passes, passes, pass_checks, checks_of, enclave_checks, checks_before_parents}
-use Rattle.enclave.specs.declared.EnclaveAnswer.TheVariants as answer
-use Rattle.enclave.specs.declared.EnclaveAnswer.{EnclaveAnswer}
 use Rattle.answers.specs.Numbers.{numbers}
-use Rattle.enclave.specs.Answer.{answer_numbers, outcome_answer, answer_of, image_result, unless, image_answer, pack_image, enclave_answer}
+use Rattle.enclave.specs.Answer.{answer_numbers, image_result, unless, image_answer, pack_image, enclave_answer}
 
 checks_append : (m : Image) (fs gs : List Pass) → checks_of m (fs ++ gs) ≡ checks_of m fs ++ checks_of m gs
 unfolding checks_of
@@ -37,9 +35,12 @@ list_passes_are m =
     (checks_append m scope_list_passes (entry_passes ++ enclave_list_passes) ∙ ap (λ x. checks_of m scope_list_passes ++ x) (checks_append m entry_passes enclave_list_passes))
 
 module _ (m : Image) where
-  -- before the walk of the parents, the walk, and after it
-  abbrev pub tables : List Check
-  tables = checks_before_parents m
+  -- the rows but for those of scopes, those of scopes, the walk of the parents, and what comes after it
+  abbrev pub rows : List Check
+  rows = checks_of m row_passes
+
+  abbrev pub scopes : List Check
+  scopes = run (scope_checks m) 0 (m.rows 7)
 
   abbrev pub cycles : List Check
   cycles = run (cycle_checks m) 0 (m.rows 7)
@@ -47,61 +48,58 @@ module _ (m : Image) where
   abbrev pub lists : List Check
   lists = checks_of m list_passes
 
-  scopes-and-cycles : checks_of m scope_passes ≡ run (scope_checks m) 0 (m.rows 7) ++ cycles
+  scopes-and-cycles : checks_of m scope_passes ≡ scopes ++ cycles
   unfolding scope_passes checks_of pass_checks
   scopes-and-cycles = rw append-nil refl
 
-  in-parts : enclave_checks m ≡ tables ++ (cycles ++ lists)
+  in-parts : enclave_checks m ≡ rows ++ (scopes ++ (cycles ++ lists))
   unfolding enclave_checks passes
   in-parts = simp (checks_append, scopes-and-cycles, append_assoc)
 
-  pub tables_refused : (o : Outcome) → o ≡ first tables → (o ≡ Passed → ⊥) → outcome_answer o ≡ image_result m
+  -- where rows are refused, where scopes are, where the parents of one do not end, where lists are, and where all pass
+  pub rows_refused : {r : Refusal} → first rows ≡ Err r → image_result m ≡ Err r
   unfolding image_result
-  tables_refused Passed e n = absurd (n refl)
-  tables_refused (Refused r) e n = rw (in-parts, first_stops tables (cycles ++ lists) (sym e)) refl
+  rows_refused e = rw (in-parts, first_stops rows (scopes ++ (cycles ++ lists)) e) refl
 
-  module _ (t : first tables ≡ Passed) where
-    past-tables : first (enclave_checks m) ≡ first (cycles ++ lists)
-    past-tables = rw in-parts (first_past tables (cycles ++ lists) t)
+  past-rows : first rows ≡ passed → first (enclave_checks m) ≡ first (scopes ++ (cycles ++ lists))
+  past-rows e = rw in-parts (first_past rows (scopes ++ (cycles ++ lists)) e)
 
-    refused-so : (o : Outcome) (n : ℕ) (r : Refusal) → parents.Refused r ≡ parents_answer o n → o ≡ Refused r
-    refused-so Passed n r e = cc
-    refused-so (Refused x) n r e = cc
+  pub scopes_refused : {r : Refusal} → first rows ≡ passed → first scopes ≡ Err r → image_result m ≡ Err r
+  unfolding image_result
+  scopes_refused e f = rw (past-rows e, first_stops scopes (cycles ++ lists) f) refl
 
-    passed-so : (o : Outcome) (n k : ℕ) → parents.Links k ≡ parents_answer o n → (o ≡ Passed) × (k ≡ n)
-    passed-so Passed n k e = (refl, cc)
-    passed-so (Refused x) n k e = let h : (Passed ≡ Refused x) × (k ≡ n) = (cc, cc) in (sym h.0, h.1)
+  past-scopes : first rows ≡ passed → first scopes ≡ passed → first (enclave_checks m) ≡ first (cycles ++ lists)
+  past-scopes e f = past-rows e ∙ first_past scopes (cycles ++ lists) f
 
-    pub cycle_refused : (r : Refusal) → parents.Refused r ≡ parents_answer (first cycles) (links m) → answer.Refused r ≡ image_result m
-    unfolding image_result
-    cycle_refused r e = rw (past-tables, first_stops cycles lists (refused-so (first cycles) (links m) r e)) refl
+  pub cycle_refused : {r : Refusal} → first rows ≡ passed → first scopes ≡ passed → answer_of (first cycles) (links m) ≡ Err r → image_result m ≡ Err r
+  unfolding image_result
+  cycle_refused e f g = rw (past-scopes e f, first_stops cycles lists (not_answered (first cycles) (links m) g)) refl
 
-    module _ (k : ℕ) (e : parents.Links k ≡ parents_answer (first cycles) (links m)) where
-      past-cycles : first (enclave_checks m) ≡ first lists
-      past-cycles = past-tables ∙ first_past cycles lists (passed-so (first cycles) (links m) k e).0
+  past-cycles : {n : ℕ} → first rows ≡ passed → first scopes ≡ passed → answer_of (first cycles) (links m) ≡ Ok n → first (enclave_checks m) ≡ first lists
+  past-cycles e f g = past-scopes e f ∙ first_past cycles lists (answered (first cycles) (links m) g).0
 
-      pub lists_refused : (o : Outcome) → o ≡ first lists → (o ≡ Passed → ⊥) → outcome_answer o ≡ image_result m
-      unfolding image_result
-      lists_refused Passed l n = absurd (n refl)
-      lists_refused (Refused r) l n = rw (past-cycles, ← l) refl
+  pub lists_refused : {n : ℕ} {r : Refusal} → first rows ≡ passed → first scopes ≡ passed → answer_of (first cycles) (links m) ≡ Ok n → first lists ≡ Err r → image_result m ≡ Err r
+  unfolding image_result
+  lists_refused e f g h = rw (past-cycles e f g, h) refl
 
-      pub image_accepted : first lists ≡ Passed → answer.Accepted k ≡ image_result m
-      unfolding image_result
-      image_accepted l = rw (past-cycles, l, (passed-so (first cycles) (links m) k e).1) refl
+  pub image_accepted : {n : ℕ} → first rows ≡ passed → first scopes ≡ passed → answer_of (first cycles) (links m) ≡ Ok n → first lists ≡ passed → image_result m ≡ Ok n
+  unfolding image_result
+  image_accepted e f g h = rw (past-cycles e f g, h, (answered (first cycles) (links m) g).1) refl
 
 numbers-of : (o : Outcome) (n : ℕ) → answer_numbers (answer_of o n) ≡ unless o (0 ∷ n ∷ [])
-numbers-of Passed n = refl
-numbers-of (Refused r) n = refl
+numbers-of (Ok u) n = refl
+numbers-of (Err r) n = refl
 
 -- the answer for a pack that is packed, and for one that is not
 module _ (p batch house : List ℕ) where
-  pub packing_refused : (r : Refusal) → Refused r ≡ first (packing_checks Enclave p batch house) → numbers r ≡ enclave_answer p batch house
+  pub packing_refused : {r : Refusal} → first (packing_checks Enclave p batch house) ≡ Err r → enclave_answer p batch house ≡ numbers r
   unfolding enclave_answer
-  packing_refused r e = rw (← e) refl
+  packing_refused e = rw e refl
 
-  pub packed_answer : (a : EnclaveAnswer) → Passed ≡ first (packing_checks Enclave p batch house) → a ≡ image_result (pack_image p batch house) → answer_numbers a ≡ enclave_answer p batch house
+  pub packed_answer : first (packing_checks Enclave p batch house) ≡ passed → enclave_answer p batch house ≡ answer_numbers (image_result (pack_image p batch house))
   unfolding enclave_answer image_answer image_result
-  packed_answer a e d = rw (← e, d) (numbers-of (first (enclave_checks (pack_image p batch house))) (links (pack_image p batch house)))
+  packed_answer e = rw e (sym (numbers-of (first (enclave_checks (pack_image p batch house))) (links (pack_image p batch house))))
 
-pub same_image : (p q batch b house h s t : List ℕ) (n : ℕ) → q ≡ p → b ≡ batch → h ≡ house → t ≡ s → n ≡ 0 → image q b h t n ≡ image p batch house s 0
-same_image p q batch b house h s t n e f g k o = rw (e, f, g, k, o) refl
+-- the enclave that a pack holds has the pack's image
+pub image_is : (p batch house : List ℕ) (e : lent.Enclave) → e.pack.bytes.now ≡ p → e.texts.batch.now ≡ batch → e.texts.house.now ≡ house → e.starts.now.firsts ≡ table_starts p 1 → e.own ≡ 0 → image_of e ≡ pack_image p batch house
+image_is p batch house e a b c d o = rw (a, b, c, d, o) refl

@@ -1,38 +1,22 @@
 -- The answer of the enclave check: document 01's number and values, 0 and the link count for acceptance. Assumes nothing.
-use Rattle.std.specs.Prelude.{ℕ, List, [], ◌∷◌, Ok, Err}
+use Rattle.std.specs.Prelude.{ℕ, List, [], ◌∷◌, Result, Ok, Err}
+use Rattle.answers.specs.declared.Refusal.{Refusal}
 use Rattle.answers.specs.Numbers.{numbers}
-use Rattle.answers.specs.Checks.{first, Outcome, passed}
+use Rattle.answers.specs.Checks.{first, Outcome, answer_of}
 use Rattle.packing.specs.declared.PackKind.TheVariants.{Enclave}
 use Rattle.packing.specs.Packing.{packing_checks}
 use Rattle.packing.specs.Starts.{table_starts}
 use Rattle.checks.specs.Image.{Image, image}
-use Rattle.scope_checks.specs.declared.links.Parents.{Parents}
-use Rattle.scope_checks.specs.declared.links.Parents.TheVariants as parents
 use Rattle.scope_checks.specs.Links.{links}
-use Rattle.enclave.specs.declared.EnclaveAnswer.{EnclaveAnswer}
-use Rattle.enclave.specs.declared.EnclaveAnswer.TheVariants as answer
 use Rattle.enclave.specs.Passes.{enclave_checks}
 
 -- the numbers of an answer
-abbrev pub answer_numbers : EnclaveAnswer → List ℕ
-answer_numbers (answer.Accepted n) = 0 ∷ n ∷ []
-answer_numbers (answer.Refused r) = numbers r
-
--- a refusal, passed up
-abbrev pub outcome_answer : Outcome → EnclaveAnswer
-outcome_answer (Ok u) = answer.Accepted 0
-outcome_answer (Err r) = answer.Refused r
-
-abbrev pub parents_outcome : Parents → EnclaveAnswer
-parents_outcome (parents.Links n) = answer.Accepted n
-parents_outcome (parents.Refused r) = answer.Refused r
+abbrev pub answer_numbers : Result ℕ Refusal → List ℕ
+answer_numbers (Ok n) = 0 ∷ n ∷ []
+answer_numbers (Err r) = numbers r
 
 -- an image's checks and its link count as an answer
-abbrev pub answer_of : Outcome → ℕ → EnclaveAnswer
-answer_of (Ok u) n = answer.Accepted n
-answer_of (Err r) n = answer.Refused r
-
-unfoldable pub image_result : Image → EnclaveAnswer
+unfoldable pub image_result : Image → Result ℕ Refusal
 image_result m = answer_of (first (enclave_checks m)) (links m)
 
 -- a refusal, or what follows a pass

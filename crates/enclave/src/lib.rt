@@ -3,12 +3,3 @@
 
 pub mod check;
 pub mod passes;
-
-use answers::Refusal;
-
-// What the check of an enclave answers.
-#[derive(Clone, Copy)]
-pub enum EnclaveAnswer {
-    Accepted { links: u64 },
-    Refused(Refusal),
-}

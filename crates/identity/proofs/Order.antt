@@ -98,21 +98,13 @@ compared_same (x ∷ a) = rw (le-ltb x x (omega arith)) (compared_same a)
 pub compared-equal : (a b : List ℕ) → compared a b ≡ Equal → a ≡ b
 unfolding compared
 compared-equal [] [] e = refl
-compared-equal [] (y ∷ b) e = let z : ◌≡◌ {A = ℕ} 0 1 = cc in absurd (omega arith)
-compared-equal (x ∷ a) [] e = let z : ◌≡◌ {A = ℕ} 0 1 = cc in absurd (omega arith)
+compared-equal [] (y ∷ b) e = cc
+compared-equal (x ∷ a) [] e = cc
 compared-equal (x ∷ a) (y ∷ b) e =
-    cases (ltb x y)
-    (λ t. absurd (not-less (sym (rw t at e))))
-    (λ f. cases (ltb y x)
-    (λ t. absurd (not-greater (sym (rw (f, t) at e))))
+    cases (ltb x y) (λ t. let h = rw t at e in cc)
+    (λ f. cases (ltb y x) (λ t. let h = rw (f, t) at e in cc)
     (λ g.
     let l = ltb-false x y f in
     let h = ltb-false y x g in
     let n : x ≡ y = omega arith in
     rw (n, compared-equal a b (rw (f, g) at e))))
-  where
-    not-less : Equal ≡ Less → ⊥
-    not-less q = let z : ◌≡◌ {A = ℕ} 0 1 = cc in omega arith
-
-    not-greater : Equal ≡ Greater → ⊥
-    not-greater q = let z : ◌≡◌ {A = ℕ} 0 1 = cc in omega arith

@@ -202,7 +202,7 @@ data Rest (v : ℕ) (x : Option (List ℕ)) (vs : List ℕ) : Type 0 where
 
 rest_of : (v : ℕ) (x : Option (List ℕ)) (vs : List ℕ) → before v x ≡ Some vs → Rest v x vs
 rest_of v (Some us) vs e = rest us refl (cc)
-rest_of v None vs e = let z : ◌≡◌ {A = ℕ} 0 1 = cc in absurd (omega arith)
+rest_of v None vs e = cc
 
 abbrev Shorter : List ℕ → Type 0
 Shorter s = (u us : List ℕ) → length u < length s → decode u ≡ Some us → Encodes u us
@@ -218,8 +218,7 @@ joins a t v w f l (rest us e q) ih =
 step : (a : ℕ) (t vs : List ℕ) (x : Option Scalar) → scalar_at (a ∷ t) 0 ≡ x → decode (a ∷ t) ≡ Some vs → Shorter (a ∷ t) → Encodes (a ∷ t) vs
 step a t vs None e q ih =
     let n = decode-none (a ∷ t) 0 (omega arith) e in
-    let z : ◌≡◌ {A = ℕ} 0 1 = cc in
-    absurd (omega arith)
+    absurd (cc)
 step a t vs (Some x) e q ih =
     let d : decode (a ∷ t) ≡ before x.value (decode (drop x.width (a ∷ t))) = rw zero-add at (decode-at (a ∷ t) 0 (omega arith) e) in
     let f = front (a ∷ t) (form-at (a ∷ t) 0 e) (omega arith) in

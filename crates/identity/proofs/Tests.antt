@@ -1,9 +1,11 @@
--- Laws of truth values, and of the test whether a number lies in a range. Assumes nothing.
+-- Cases by a test, and laws of the test whether a number lies in a range. Assumes nothing.
 use Prim.Native.Nat.{ℕ, ◌<◌, ◌≤◌}
-use mathlib.Core.Bool.{Bool, true, false, ◌&&◌, ◌||◌, true≢false}
-use mathlib.Core.Path.{◌≡◌, refl, sym}
+use mathlib.Core.Bool.{Bool, true, false}
+use mathlib.Core.Path.{◌≡◌, refl}
 use lib.Dec.{ltb, leb}
-use borrow.Author.Tests.{ltb-true, ltb-false, leb-true, le-leb, lt-leb}
+use borrow.Author.Tests.{ltb-true, ltb-false, leb-true, le-leb, lt-leb, clash}
+pub use Rattle.std.proofs.lemmas.Bool.{and_parts as both, or_parts as neither}
+pub use Rattle.std.proofs.Math.Bool.{and-true, and-false, and_assoc, or-true}
 use Rattle.identity.specs.Within.{within}
 
 abbrev pub cases {ℓ} : {X : Type ℓ} (b : Bool) → (b ≡ true → X) → (b ≡ false → X) → X
@@ -15,31 +17,7 @@ below_or_not m n f g = cases (ltb m n) (λ t. f (ltb-true m n t)) (λ e. g (ltb-
 
 -- a test that fails has nothing to show
 pub failed : {X : Type 0} → false ≡ true → X
-failed e = absurd (true≢false (sym e))
-
-pub both : (x y : Bool) → x && y ≡ true → (x ≡ true) × (y ≡ true)
-both true y e = (refl, e)
-both false y e = let z : ◌≡◌ {A = Bool} true false = sym e in absurd (true≢false z)
-
-pub neither : (x y : Bool) → x || y ≡ false → (x ≡ false) × (y ≡ false)
-neither true y e = let z : ◌≡◌ {A = Bool} true false = e in absurd (true≢false z)
-neither false y e = (refl, e)
-
-pub and-true : (b : Bool) → b && true ≡ b
-and-true true = refl
-and-true false = refl
-
-pub and-false : (b : Bool) → b && false ≡ false
-and-false true = refl
-and-false false = refl
-
-pub and_assoc : (a b c : Bool) → (a && b) && c ≡ a && (b && c)
-and_assoc true b c = refl
-and_assoc false b c = refl
-
-pub or-true : (b : Bool) → b || true ≡ true
-or-true true = refl
-or-true false = refl
+failed e = absurd (clash e)
 
 pub within-true : (low high v : ℕ) → within low high v ≡ true → (low ≤ v) × (v ≤ high)
 within-true low high v e =

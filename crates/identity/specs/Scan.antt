@@ -1,5 +1,5 @@
 -- Auxiliary: what the contracts of the private functions cite, and no public contract.
-use Rattle.std.specs.Prelude.{ℕ, zero, suc, ◌+◌, ◌<◌, ◌≤◌, Bool, true, false, ◌&&◌, ◌||◌, cond, ◌≡◌, List, ltb, eqb, get_or, drop}
+use Rattle.std.specs.Prelude.{ℕ, zero, suc, ◌+◌, ◌<◌, ◌≤◌, Bool, true, ◌&&◌, ◌||◌, cond, ◌≡◌, List, ltb, eqb, get_or, drop}
 use Rattle.identity.specs.Within.{within}
 use Rattle.identity.specs.Utf8.{before, decode, utf8}
 use Rattle.identity.specs.Unicode.{control, white_space}

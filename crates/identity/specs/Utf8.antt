@@ -1,5 +1,5 @@
 -- UTF-8: the scalars, their bytes, and the scalars of a text.
-use Rattle.std.specs.Prelude.{ℕ, zero, suc, ◌+◌, ◌*◌, ◌/◌, ◌%◌, ◌-◌, Bool, true, false, ◌&&◌, ◌||◌, cond, List, [], ◌∷◌, ◌++◌, ltb, leb, get_or, Option, Some, None, is_some}
+use Rattle.std.specs.Prelude.{ℕ, zero, suc, ◌+◌, ◌*◌, ◌/◌, ◌%◌, ◌-◌, Bool, ◌&&◌, ◌||◌, cond, List, [], ◌∷◌, ◌++◌, ltb, leb, get_or, Option, Some, None, is_some}
 use Rattle.identity.specs.Within.{within}
 use Rattle.identity.specs.declared.decode.Scalar.{Scalar}
 

@@ -6,6 +6,7 @@ ghost use Rattle.identity.specs.Scan.{every, same_at};
 use std::cmp::Ordering;
 
 // Whether the first 16 bytes of both are the same: no branch among them, so that they are compared at once.
+// A `for`, since `==` of two slices is a call, which is not inlined, for each block.
 #[tactic(auto, using(crate::proofs::Steps::block_laws))]
 fn same_block(left: &[u8], right: &[u8]) -> bool
     requires left_inside { 16 ≤ length left.now }

@@ -14,7 +14,7 @@ fn ascii(any: bool, b: u8) -> bool
     (b < 0x80) & (any | ((0x20 <= b) & (b <= 0x7E)))
 }
 
-// Whether every byte is such: no branch among them, so that many are tested at once.
+// Whether every byte is such: no branch among them, so that many are tested at once. (`all` would stop at the first that is not.)
 #[tactic(auto, using(crate::proofs::Steps::block_laws))]
 fn all_ascii(any: bool, text: &[u8]) -> bool
     ensures { result ≡ every (ascii_at any text.now) 0 (length text.now) }
@@ -58,60 +58,69 @@ fn fits(any: bool, b: u8, p: u8, q: u8, r: u8) -> bool
     (due & second(any, b, p)) | (!due & starts(any, b))
 }
 
-// Whether each of the 16 bytes from `at` fits the three before it.
-#[tactic(auto, using(crate::proofs::Steps::block_laws))]
-fn fits_block(any: bool, text: &[u8], at: usize) -> bool
-    requires after_three { 3 ≤ at }
-    requires inside { at + 16 ≤ length text.now }
-    ensures { result ≡ every (fits_at any text.now) at 16 }
-{
-    let mut all = true;
-    for k in 0..16 {
-        let i = at + k;
-        all &= fits(any, text[i], text[i - 1], text[i - 2], text[i - 3]);
-    }
-    all
+// A place in a text with three bytes before it.
+#[derive(Clone, Copy)]
+struct Inner<'a> {
+    text: &'a [u8],
+    at: usize,
+    ghost after_three: { 3 ≤ at },
+    ghost inside: { at ≤ length text.now },
 }
 
-// How many bytes from `at` on fit the three before them, by blocks of 16, none of them the last.
-#[tactic(auto, using(crate::proofs::Steps::run_laws))]
-fn fits_blocks(any: bool, text: &[u8], at: usize) -> usize
-    requires after_three { 3 ≤ at }
-    requires inside { at < length text.now }
-    ensures { Run (fits_at any text.now) at result (length text.now - 1) }
-{
-    let rest = text.len() - at;
-    // A block at a time, while all of it fits.
-    let mut k = 0;
-    while k + 16 < rest && fits_block(any, text, at + k) {
-        k += 16;
+impl<'a> Inner<'a> {
+    // Whether each of the 16 bytes from `ahead` places on fits the three before it.
+    #[tactic(auto, using(crate::proofs::Steps::block_laws))]
+    fn fits_block(self, any: bool, ahead: usize) -> bool
+        requires { self.at + ahead + 16 ≤ length self.text.now }
+        ensures { result ≡ every (fits_at any self.entry.text.now) (self.entry.at + ahead) 16 }
+    {
+        let (text, at) = (self.text, self.at + ahead);
+        let mut all = true;
+        for k in 0..16 {
+            let i = at + k;
+            all &= fits(any, text[i], text[i - 1], text[i - 2], text[i - 3]);
+        }
+        all
     }
-    k
-}
 
-// Whether no following byte is due at `at`.
-fn quiet(text: &[u8], at: usize) -> bool
-    requires after_three { 3 ≤ at }
-    requires inside { at ≤ length text.now }
-    ensures { result ≡ quiet_at text.now at }
-{
-    !due(text[at - 1], text[at - 2], text[at - 3])
-}
-
-// How many of the k bytes from `at` are whole scalars: the beginning of one at the end is left off, a byte at a time, since each place looks back three bytes.
-#[tactic(auto, using(crate::proofs::Steps::not_there))]
-fn whole_scalars(text: &[u8], at: usize, k: usize) -> usize
-    requires after_three { 3 ≤ at }
-    requires inside { at + k ≤ length text.now }
-    requires starts { quiet_at text.now at ≡ true }
-    ensures most { result ≤ k }
-    ensures ends { quiet_at text.now (at + result) ≡ true }
-{
-    let mut w = k;
-    while !quiet(text, at + w) {
-        w -= 1;
+    // How many bytes fit the three before them, by blocks of 16, none of them the text's last.
+    #[tactic(auto, using(crate::proofs::Steps::run_laws))]
+    fn fits_blocks(self, any: bool) -> usize
+        requires { self.at < length self.text.now }
+        ensures { Run (fits_at any self.entry.text.now) self.entry.at result (length self.entry.text.now - 1) }
+    {
+        let rest = self.text.len() - self.at;
+        // A block at a time, while all of it fits.
+        let mut k = 0;
+        while k + 16 < rest && self.fits_block(any, k) {
+            k += 16;
+        }
+        k
     }
-    w
+
+    // Whether no following byte is due `ahead` places on.
+    fn quiet(self, ahead: usize) -> bool
+        requires { self.at + ahead ≤ length self.text.now }
+        ensures { result ≡ quiet_at self.entry.text.now (self.entry.at + ahead) }
+    {
+        let (text, at) = (self.text, self.at + ahead);
+        !due(text[at - 1], text[at - 2], text[at - 3])
+    }
+
+    // How many of the next k bytes are whole scalars: the beginning of one at the end is left off, a byte at a time, since each place looks back three bytes.
+    #[tactic(auto, using(crate::proofs::Steps::not_there))]
+    fn whole_scalars(self, k: usize) -> usize
+        requires inside { self.at + k ≤ length self.text.now }
+        requires starts { quiet_at self.text.now self.at ≡ true }
+        ensures most { result ≤ k }
+        ensures ends { quiet_at self.entry.text.now (self.entry.at + result) ≡ true }
+    {
+        let mut w = k;
+        while !self.quiet(w) {
+            w -= 1;
+        }
+        w
+    }
 }
 
 // How many bytes from `at` on are scalars inside the text, by blocks, and no controls unless `any` may stand; 0 where the first block is not so.
@@ -121,8 +130,12 @@ fn inner_scalars(any: bool, text: &[u8], at: usize) -> usize
     ensures passed_utf8 { Passed (utf8_from text.now) (length text.now) at result }
     ensures passed_id { any ≡ false → Passed (id_from text.now) (length text.now) at result }
 {
-    if 3 <= at && 16 < text.len() - at && quiet(text, at) {
-        whole_scalars(text, at, fits_blocks(any, text, at))
+    if at < 3 || text.len() - at <= 16 {
+        return 0;
+    }
+    let inner = Inner { text, at };
+    if inner.quiet(0) {
+        inner.whole_scalars(inner.fits_blocks(any))
     } else {
         0
     }

@@ -4,39 +4,45 @@
 ghost use Rattle.std.specs.Prelude.{◌≤◌, length};
 
 use identity::IdentityPlace;
-use std::io;
+use identity::scan::{is_utf8, valid_id};
+use identity::texts::Texts;
 use std::io::Write;
+use std::{fmt, io};
 
-// Writes bytes in hexadecimal, or `-` where there are none.
-fn hex<W: Write>(out: &mut W, text: &[u8]) -> io::Result<()> {
-    if text.is_empty() {
-        write!(out, "-")?;
+// Bytes, shown in hexadecimal, or as `-` where there are none.
+#[derive(Clone, Copy)]
+struct Hex<'a>(&'a [u8]);
+
+impl<'a> fmt::Display for Hex<'a> {
+    fn fmt<W: fmt::Write>(&self, f: &mut fmt::Formatter<W>) -> fmt::Result {
+        if self.0.is_empty() {
+            return write!(f, "-");
+        }
+        for b in self.0 {
+            write!(f, "{b:02x}")?;
+        }
+        Ok(())
     }
-    for b in text {
-        write!(out, "{b:02x}")?;
-    }
-    Ok(())
 }
 
 // A text, whether it is UTF-8, and whether it is a valid identity.
 fn show_text<W: Write>(out: &mut W, text: &[u8]) -> io::Result<()> {
-    hex(out, text)?;
-    let utf8 = if identity::scan::is_utf8(text) {
-        " utf-8"
-    } else {
-        " malformed"
-    };
-    write!(out, "{utf8}")?;
-    let valid = if identity::scan::valid_id(text) {
-        " valid"
-    } else {
-        " invalid"
-    };
-    writeln!(out, "{valid}")
+    let utf8 = if is_utf8(text) { "utf-8" } else { "malformed" };
+    let valid = if valid_id(text) { "valid" } else { "invalid" };
+    writeln!(out, "{} {utf8} {valid}", Hex(text))
+}
+
+// A heading, and texts with bars between them.
+fn show_texts<W: Write>(out: &mut W, heading: &str, texts: &[u8]) -> io::Result<()> {
+    writeln!(out, "{heading}")?;
+    for text in texts.split(|b| *b == b'|') {
+        show_text(out, text)?;
+    }
+    Ok(())
 }
 
 // A character of at most three bytes: before letters, after them, and between them.
-fn show_character<W: Write>(out: &mut W, character: &[u8], letters: &[u8]) -> io::Result<()>
+fn show_character<W: Write>(out: &mut W, letters: &[u8], character: &[u8]) -> io::Result<()>
     requires { length letters.now ≤ 21 }
 {
     let n = character.len();
@@ -45,6 +51,7 @@ fn show_character<W: Write>(out: &mut W, character: &[u8], letters: &[u8]) -> io
     }
     let k = letters.len();
     let end = k + n;
+    // Room for 21 letters, three bytes and 21 letters.
     let mut text = [0u8; 45];
     text[..k].copy_from_slice(letters);
     text[k..end].copy_from_slice(character);
@@ -54,34 +61,32 @@ fn show_character<W: Write>(out: &mut W, character: &[u8], letters: &[u8]) -> io
     show_text(out, &text[..end + k])
 }
 
-// Letters of more than a block of 16 bytes, one of them not ASCII.
-const LETTERS: &[u8] = b"abcdefg\xC3\xA9jklmnopqrstu";
-
-#[derive(Clone, Copy)]
-enum Shown {
-    Text,
-    Character,
-    InBlocks,
-}
-
-// A heading, and texts or characters with bars between them.
-fn show_list<W: Write>(out: &mut W, shown: Shown, heading: &str, texts: &[u8]) -> io::Result<()> {
+// A heading, and characters with bars between them, each with letters around it.
+fn show_characters<W: Write>(
+    out: &mut W,
+    letters: &[u8],
+    heading: &str,
+    characters: &[u8],
+) -> io::Result<()>
+    requires { length letters.now ≤ 21 }
+{
     writeln!(out, "{heading}")?;
-    for text in texts.split(|b| *b == b'|') {
-        match shown {
-            Shown::Text => show_text(out, text)?,
-            Shown::Character => show_character(out, text, b"a")?,
-            Shown::InBlocks => show_character(out, text, LETTERS)?,
-        }
+    for character in characters.split(|b| *b == b'|') {
+        show_character(out, letters, character)?;
     }
     Ok(())
 }
+
+// One letter, and letters of more than a block of 16 bytes, one of them not ASCII.
+const LETTER: &[u8] = b"a";
+
+const LETTERS: &[u8] = b"abcdefg\xC3\xA9jklmnopqrstu";
 
 // A digit's number; `*` is the largest number.
 fn number(digit: Option<u8>) -> u32 {
     match digit {
         Some(b'*') => u32::MAX,
-        Some(digit) => (digit % 16) as u32,
+        Some(digit) => u32::from(digit % 16),
         None => 0,
     }
 }
@@ -95,21 +100,20 @@ fn place(name: &str) -> IdentityPlace {
     IdentityPlace { house, start, len }
 }
 
-const BATCH: &[u8] = b"abcabd";
-
-const HOUSE: &[u8] = b"abc\xFFz";
+const TEXTS: Texts = Texts {
+    batch: b"abcabd",
+    house: b"abc\xFFz",
+};
 
 // A place, whether it is inside its text, and the text that it names.
 fn show_place<W: Write>(out: &mut W, name: &str) -> io::Result<()> {
     let place = place(name);
-    let inside = if identity::place::place_inside(BATCH, HOUSE, place) {
-        " inside "
+    let inside = if TEXTS.holds(place) {
+        "inside"
     } else {
-        " outside "
+        "outside"
     };
-    write!(out, "{name}{inside}")?;
-    hex(out, identity::place::identity_text(BATCH, HOUSE, place))?;
-    writeln!(out)
+    writeln!(out, "{name} {inside} {}", Hex(TEXTS.identity_text(place)))
 }
 
 // Two places and the order of their texts.
@@ -117,42 +121,33 @@ fn show_order<W: Write>(out: &mut W, names: &str) -> io::Result<()> {
     let Some((left, right)) = names.split_once(' ') else {
         return Ok(());
     };
-    write!(out, "{names}")?;
-    match identity::compare::compare_utf8(BATCH, HOUSE, place(left), place(right)) {
-        0 => writeln!(out, " 0"),
-        1 => writeln!(out, " 1"),
-        -1 => writeln!(out, " -1"),
-        _ => writeln!(out, " ?"),
-    }
+    let order = TEXTS.compare_utf8(place(left), place(right));
+    writeln!(out, "{names} {order}")
 }
 
 fn utf_8<W: Write>(out: &mut W) -> io::Result<()> {
-    show_list(
+    show_texts(
         out,
-        Shown::Text,
         "RFC 3629, section 7",
         b"\x41\xE2\x89\xA2\xCE\x91\x2E|\xED\x95\x9C\xEA\xB5\xAD\xEC\x96\xB4\
         |\xE6\x97\xA5\xE6\x9C\xAC\xE8\xAA\x9E|\xEF\xBB\xBF\xF0\xA3\x8E\xB4",
     )?;
-    show_list(
+    show_texts(
         out,
-        Shown::Text,
         "first bytes",
         b"\x00|\x7E|\x7F|\x80|\xBF|\xC0\x80|\xC1\xBF|\xC2\x80|\xC2\xBF|\xDF\xBF\
         |\xE0\xA0\x80|\xEF\xBF\xBF|\xF0\x90\x80\x80|\xF4\x8F\xBF\xBF\
         |\xF5\x80\x80\x80|\xF7\xBF\xBF\xBF|\xF8\x88\x80\x80\x80|\xFE|\xFF",
     )?;
-    show_list(
+    show_texts(
         out,
-        Shown::Text,
         "scalars in too many bytes, too high, surrogates and their neighbours",
         b"\xE0\x80\x80|\xE0\x9F\xBF|\xF0\x80\x80\x80|\xF0\x8F\xBF\xBF\
         |\xF4\x90\x80\x80|\xF4\xBF\xBF\xBF|\xED\x9F\xBF|\xED\xA0\x80|\xED\xAF\xBF\
         |\xED\xB0\x80|\xED\xBF\xBF|\xEE\x80\x80",
     )?;
-    show_list(
+    show_texts(
         out,
-        Shown::Text,
         "following bytes out of range, missing and left over",
         b"\xC3\x7F|\xC3\xC0|\xE1\x7F\x80|\xE1\xC0\x80|\xE1\x80\x7F|\xE1\x80\xC0\
         |\xF1\x7F\x80\x80|\xF1\xC0\x80\x80|\xF1\x80\x7F\x80|\xF1\x80\xC0\x80\
@@ -162,15 +157,13 @@ fn utf_8<W: Write>(out: &mut W) -> io::Result<()> {
 }
 
 fn identities<W: Write>(out: &mut W) -> io::Result<()> {
-    show_list(
+    show_texts(
         out,
-        Shown::Text,
         "document 01, and the empty text",
         b" a|\xC2\xA0|a b|\xE2\x80\x8B|",
     )?;
-    show_list(
+    show_texts(
         out,
-        Shown::Text,
         "around a block of 16",
         b"abcdefghijklmno|abcdefghijklmnop|abcdefghijklmnopq|abcdefghijklmnopqrstuvwxyz012345\
         |abcdefghijklmno\xFF|abcdefghijklmnop\xFF|abcdefgh jklmnopqrstuvw\xC3\xA9z\
@@ -183,31 +176,31 @@ const SURROGATES: &[u8] =
 
 fn surrogates<W: Write>(out: &mut W) -> io::Result<()> {
     let heading = "surrogates and their neighbours: first, last and in the middle";
-    show_list(out, Shown::Character, heading, SURROGATES)?;
+    show_characters(out, LETTER, heading, SURROGATES)?;
     let heading = "surrogates and their neighbours in blocks: first, last and in the middle";
-    show_list(out, Shown::InBlocks, heading, SURROGATES)
+    show_characters(out, LETTERS, heading, SURROGATES)
 }
 
 fn characters<W: Write>(out: &mut W) -> io::Result<()> {
-    show_list(
+    show_characters(
         out,
-        Shown::Character,
+        LETTER,
         "White_Space: first, last and in the middle",
         b"\x09|\x0A|\x0B|\x0C|\x0D|\x20|\xC2\x85|\xC2\xA0|\xE1\x9A\x80\
         |\xE2\x80\x80|\xE2\x80\x81|\xE2\x80\x82|\xE2\x80\x83|\xE2\x80\x84|\xE2\x80\x85\
         |\xE2\x80\x86|\xE2\x80\x87|\xE2\x80\x88|\xE2\x80\x89|\xE2\x80\x8A\
         |\xE2\x80\xA8|\xE2\x80\xA9|\xE2\x80\xAF|\xE2\x81\x9F|\xE3\x80\x80",
     )?;
-    show_list(
+    show_characters(
         out,
-        Shown::Character,
+        LETTER,
         "next to White_Space, and no control",
         b"\x21|\xC2\xA1|\xE1\x99\xBF|\xE1\x9A\x81|\xE1\xBF\xBF|\xE2\x80\x8B|\xE2\x80\xA7\
         |\xE2\x80\xAA|\xE2\x80\xAE|\xE2\x80\xB0|\xE2\x81\x9E|\xE2\x81\xA0|\xE2\xBF\xBF|\xE3\x80\x81",
     )?;
-    show_list(
+    show_characters(
         out,
-        Shown::Character,
+        LETTER,
         "controls, and 7E: first, last and in the middle",
         b"\x00|\x08|\x0E|\x1F|\x7E|\x7F|\xC2\x80|\xC2\x84|\xC2\x86|\xC2\x9F",
     )

@@ -17,20 +17,20 @@ unfoldable pub named_checks : ℕ → Field → ℕ → (ℕ → ℕ) → Image 
 named_checks t f g named m i = ref_to m.rows t i f g (named i) ∷ []
 
 -- an entry of one index, and one that names an action to start
-abbrev pub index_checks : ℕ → Field → ℕ → Image → ℕ → List Check
+unfoldable pub index_checks : ℕ → Field → ℕ → Image → ℕ → List Check
 index_checks t f g m i = named_checks t f g (m.indexes t) m i
 
-abbrev pub startup_checks : ℕ → Image → ℕ → List Check
+unfoldable pub startup_checks : ℕ → Image → ℕ → List Check
 startup_checks t m i = named_checks t field.Action 3 (m.startups t) m i
 
 -- the triggers of row i, and so of action i and of port i
 unfoldable pub trigger_checks : (ℕ → SliceRange) → Image → ℕ → List Check
 trigger_checks triggers m i = levels_checks m.rows m.reactions m.levels 8 (triggers i).start (triggers i).len
 
-abbrev pub action_trigger_checks : Image → ℕ → List Check
+unfoldable pub action_trigger_checks : Image → ℕ → List Check
 action_trigger_checks m i = trigger_checks (λ j. (m.actions j).triggers) m i
 
-abbrev pub port_trigger_checks : Image → ℕ → List Check
+unfoldable pub port_trigger_checks : Image → ℕ → List Check
 port_trigger_checks m i = trigger_checks (λ j. (m.ports j).triggers) m i
 
 -- entry k of the enabled modes of reaction i, which is the reactor's: the mode is there, and the reactor's too
@@ -59,11 +59,11 @@ module _ {A : Type 0} (rows : ℕ → ℕ) (reactions : ℕ → ReactionPart) (o
   unfoldable pub listed_entry_checks : (ℕ → ℕ → A) → ℕ → ℕ → List Check
   listed_entry_checks entries t i = entry_checks rows reactions own level t i (entries t i)
 
-abbrev pub level_entry_checks : ℕ → Image → ℕ → List Check
-level_entry_checks t m = listed_entry_checks m.rows m.reactions (no_more m.rows) level_of m.levels t
+unfoldable pub level_entry_checks : ℕ → Image → ℕ → List Check
+level_entry_checks t m i = listed_entry_checks m.rows m.reactions (no_more m.rows) level_of m.levels t i
 
-abbrev pub lifecycle_entry_checks : ℕ → Image → ℕ → List Check
-lifecycle_entry_checks t m = listed_entry_checks m.rows m.reactions (action_checks m.rows) reaction_of m.lifecycles t
+unfoldable pub lifecycle_entry_checks : ℕ → Image → ℕ → List Check
+lifecycle_entry_checks t m i = listed_entry_checks m.rows m.reactions (action_checks m.rows) reaction_of m.lifecycles t i
 
 -- the shutdown reactions, one list over the whole table
 abbrev pub shutdown_reaction_checks : Image → ℕ → List Check

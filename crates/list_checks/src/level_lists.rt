@@ -6,7 +6,7 @@ ghost use Rattle.range.specs.declared.SliceRange.{SliceRange};
 ghost use Rattle.answers.specs.Checks.{first, run};
 ghost use Rattle.schema.specs.Tables.{start_of, tables};
 ghost use Rattle.checks.specs.Image.{image_of, stored_at};
-ghost use Rattle.list_checks.specs.ListTables.{trigger_checks, action_trigger_checks, port_trigger_checks, scope_list_checks, listed_entry_checks, shutdown_reaction_checks};
+ghost use Rattle.list_checks.specs.ListTables.{trigger_checks, action_trigger_checks, port_trigger_checks, scope_list_checks, listed_entry_checks, level_entry_checks, lifecycle_entry_checks, shutdown_reaction_checks};
 ghost use Rattle.schema.specs.Keys.{known_3, known_4};
 
 use answers::Refusal;
@@ -65,12 +65,14 @@ fn check_triggers<R: Triggering>(e: &Enclave) -> Result<(), Refusal>
     Ok(())
 }
 
+#[tactic(auto, unfolding(crate::specs::ListTables::action_trigger_checks))]
 pub fn check_triggers_of_actions(e: &Enclave) -> Result<(), Refusal>
     ensures { let m = image_of e.now in result ≡ first (run (action_trigger_checks m) 0 (m.rows 3)) }
 {
     check_triggers::<ActionImage>(e)
 }
 
+#[tactic(auto, unfolding(crate::specs::ListTables::port_trigger_checks))]
 pub fn check_triggers_of_ports(e: &Enclave) -> Result<(), Refusal>
     ensures { let m = image_of e.now in result ≡ first (run (port_trigger_checks m) 0 (m.rows 4)) }
 {
@@ -108,7 +110,7 @@ pub fn check_lists_of_scopes(e: &Enclave) -> Result<(), Refusal>
 
 // Every entry of a table by itself, whether or not some range covers it.
 #[tactic(auto, using(answers::proofs::Loops::run_laws), unfolding(crate::specs::ListTables::listed_entry_checks))]
-pub fn check_listed_entries<L: Listed>(e: &Enclave, table: u8) -> Result<(), Refusal>
+fn check_listed_entries<L: Listed>(e: &Enclave, table: u8) -> Result<(), Refusal>
     requires { table < tables }
     ensures { let m = image_of e.now
         in let entries = stored_at L.at e.now.pack.bytes.now e.now.starts.now.firsts
@@ -119,6 +121,22 @@ pub fn check_listed_entries<L: Listed>(e: &Enclave, table: u8) -> Result<(), Ref
         check_entry(e, table, i, entry)?;
     }
     Ok(())
+}
+
+#[tactic(auto, unfolding(crate::specs::ListTables::level_entry_checks))]
+pub fn check_level_entries<R: Row>(e: &Enclave) -> Result<(), Refusal>
+    requires { R.TABLE < tables }
+    ensures { let m = image_of e.now in result ≡ first (run (level_entry_checks R.TABLE m) 0 (m.rows R.TABLE)) }
+{
+    check_listed_entries::<LevelReactionImage>(e, R::TABLE)
+}
+
+#[tactic(auto, unfolding(crate::specs::ListTables::lifecycle_entry_checks))]
+pub fn check_lifecycle_entries<R: Row>(e: &Enclave) -> Result<(), Refusal>
+    requires { R.TABLE < tables }
+    ensures { let m = image_of e.now in result ≡ first (run (lifecycle_entry_checks R.TABLE m) 0 (m.rows R.TABLE)) }
+{
+    check_listed_entries::<LifecycleReactionImage>(e, R::TABLE)
 }
 
 // The shutdown reactions: one list over the whole table.

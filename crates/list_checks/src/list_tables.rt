@@ -134,39 +134,44 @@ fn check_named<N: Naming>(e: &Enclave, table: u8) -> Result<(), Refusal>
     Ok(())
 }
 
-pub fn check_port_entries(e: &Enclave, table: u8) -> Result<(), Refusal>
-    requires { table < tables }
-    ensures { let m = image_of e.now in result ≡ first (run (index_checks table field.Port 4 m) 0 (m.rows table)) }
+#[tactic(auto, unfolding(crate::specs::ListTables::index_checks))]
+pub fn check_port_entries<R: Row>(e: &Enclave) -> Result<(), Refusal>
+    requires { R.TABLE < tables }
+    ensures { let m = image_of e.now in result ≡ first (run (index_checks R.TABLE field.Port 4 m) 0 (m.rows R.TABLE)) }
 {
-    check_named::<PortIndex>(e, table)
+    check_named::<PortIndex>(e, R::TABLE)
 }
 
-pub fn check_action_entries(e: &Enclave, table: u8) -> Result<(), Refusal>
-    requires { table < tables }
-    ensures { let m = image_of e.now in result ≡ first (run (index_checks table field.Action 3 m) 0 (m.rows table)) }
+#[tactic(auto, unfolding(crate::specs::ListTables::index_checks))]
+pub fn check_action_entries<R: Row>(e: &Enclave) -> Result<(), Refusal>
+    requires { R.TABLE < tables }
+    ensures { let m = image_of e.now in result ≡ first (run (index_checks R.TABLE field.Action 3 m) 0 (m.rows R.TABLE)) }
 {
-    check_named::<ActionIndex>(e, table)
+    check_named::<ActionIndex>(e, R::TABLE)
 }
 
-pub fn check_mode_entries(e: &Enclave, table: u8) -> Result<(), Refusal>
-    requires { table < tables }
-    ensures { let m = image_of e.now in result ≡ first (run (index_checks table field.Mode 6 m) 0 (m.rows table)) }
+#[tactic(auto, unfolding(crate::specs::ListTables::index_checks))]
+pub fn check_mode_entries<R: Row>(e: &Enclave) -> Result<(), Refusal>
+    requires { R.TABLE < tables }
+    ensures { let m = image_of e.now in result ≡ first (run (index_checks R.TABLE field.Mode 6 m) 0 (m.rows R.TABLE)) }
 {
-    check_named::<ModeIndex>(e, table)
+    check_named::<ModeIndex>(e, R::TABLE)
 }
 
-pub fn check_scope_entries(e: &Enclave, table: u8) -> Result<(), Refusal>
-    requires { table < tables }
-    ensures { let m = image_of e.now in result ≡ first (run (index_checks table field.Scope 7 m) 0 (m.rows table)) }
+#[tactic(auto, unfolding(crate::specs::ListTables::index_checks))]
+pub fn check_scope_entries<R: Row>(e: &Enclave) -> Result<(), Refusal>
+    requires { R.TABLE < tables }
+    ensures { let m = image_of e.now in result ≡ first (run (index_checks R.TABLE field.Scope 7 m) 0 (m.rows R.TABLE)) }
 {
-    check_named::<ScopeIndex>(e, table)
+    check_named::<ScopeIndex>(e, R::TABLE)
 }
 
-pub fn check_startup_entries(e: &Enclave, table: u8) -> Result<(), Refusal>
-    requires { table < tables }
-    ensures { let m = image_of e.now in result ≡ first (run (startup_checks table m) 0 (m.rows table)) }
+#[tactic(auto, unfolding(crate::specs::ListTables::startup_checks))]
+pub fn check_startup_entries<R: Row>(e: &Enclave) -> Result<(), Refusal>
+    requires { R.TABLE < tables }
+    ensures { let m = image_of e.now in result ≡ first (run (startup_checks R.TABLE m) 0 (m.rows R.TABLE)) }
 {
-    check_named::<TimerStartupImage>(e, table)
+    check_named::<TimerStartupImage>(e, R::TABLE)
 }
 
 // Entry k of the enabled modes of a reaction: the mode is there, and of the reaction's reactor.
@@ -238,7 +243,7 @@ fn check_action_order(
 }
 
 // Entry i of the shutdown actions names an action that is there, above the one that the entry before names.
-#[tactic(auto, using(answers::proofs::Laws::list_laws), unfolding(answers::specs::Checks::first, crate::specs::ListTables::named_checks, crate::specs::ListTables::shutdown_action_checks))]
+#[tactic(auto, using(answers::proofs::Laws::list_laws), unfolding(answers::specs::Checks::first, crate::specs::ListTables::named_checks, crate::specs::ListTables::index_checks, crate::specs::ListTables::shutdown_action_checks))]
 fn check_shutdown_action(e: &Enclave, i: u32) -> Result<(), Refusal>
     ensures { result ≡ first (shutdown_action_checks (image_of e.now) i) }
 {

@@ -4,5 +4,4 @@ pub mod TableStarts
 pub mod Packed
 pub mod TableRows
 pub mod Runs
-pub mod RowRuns
 pub mod Records

@@ -9,10 +9,9 @@ use lib.Dec.{ltb, leb, eqb}
 use lib.ListN.{length}
 use borrow.Author.Tests.{ltb-true, leb-true, eqb-true}
 use Rattle.answers.specs.declared.Refusal.{Refusal}
-use Rattle.answers.specs.declared.Outcome.TheVariants.{Passed}
-use Rattle.answers.specs.Checks.{Check, need, first, run}
+use Rattle.answers.specs.Checks.{Check, need, first, run, passed}
 use Rattle.schema.specs.Layout.{layouts}
-use Rattle.schema.specs.Rows.{byte_of}
+use Rattle.schema.specs.Bytes.{byte_of}
 use Rattle.packing.specs.declared.PackKind.{PackKind}
 use Rattle.packing.specs.declared.PackKind.TheVariants.{Enclave}
 use Rattle.packing.specs.Packing.{first_table, table_after, in_place, record_checks, packing_checks}
@@ -29,18 +28,18 @@ place_after kind p (suc n) e = let m : suc n - 1 ≡ n = omega arith in rw m
 pub ruleset place_laws = (place_first, place_after)
 
 -- where a list passes, each of its checks does
-passed_first : (b : Bool) (r : Refusal) (cs : List Check) → first (need b r ∷ cs) ≡ Passed → (b ≡ true) × (first cs ≡ Passed)
+passed_first : (b : Bool) (r : Refusal) (cs : List Check) → first (need b r ∷ cs) ≡ passed → (b ≡ true) × (first cs ≡ passed)
 unfolding first
 passed_first true r cs e = (refl, e)
 passed_first false r cs e = let z : ◌≡◌ {A = Bool} true false = cc in absurd (true≢false z)
 
-passed-append : (xs ys : List Check) → first (xs ++ ys) ≡ Passed → (first xs ≡ Passed) × (first ys ≡ Passed)
+passed-append : (xs ys : List Check) → first (xs ++ ys) ≡ passed → (first xs ≡ passed) × (first ys ≡ passed)
 unfolding first
 passed-append [] ys e = (refl, e)
 passed-append (need true r ∷ xs) ys e = passed-append xs ys e
 passed-append (need false r ∷ xs) ys e = let z : ◌≡◌ {A = Bool} true false = cc in absurd (true≢false z)
 
-passed-run : (f : ℕ → List Check) (i n : ℕ) → first (run f i n) ≡ Passed → (k : ℕ) → i ≤ k → k < i + n → first (f k) ≡ Passed
+passed-run : (f : ℕ → List Check) (i n : ℕ) → first (run f i n) ≡ passed → (k : ℕ) → i ≤ k → k < i + n → first (f k) ≡ passed
 unfolding run
 passed-run f i zero e k l u = absurd (omega arith)
 passed-run f i (suc n) e k l u =
@@ -53,7 +52,7 @@ pub record PackLength (n : ℕ) : Type 0 where
   pub few : n ≤ 4194304
   pub whole : n % 64 ≡ 0
 
-module _ (kind : PackKind) (p batch house : List ℕ) (h : first (packing_checks kind p batch house) ≡ Passed) where
+module _ (kind : PackKind) (p batch house : List ℕ) (h : first (packing_checks kind p batch house) ≡ passed) where
   pub fits : PackLength (length p)
   unfolding packing_checks
   fits =
@@ -67,7 +66,7 @@ module _ (kind : PackKind) (p batch house : List ℕ) (h : first (packing_checks
       let rest = (passed_first _ _ _ (passed_first _ _ _ (passed_first _ _ _ h).1).1).1 in
       (passed_first _ _ _ (passed-run (record_checks kind p batch house) 0 (length p / 64) rest n (omega arith) (omega arith))).0
 
-module _ (p batch house : List ℕ) (h : first (packing_checks Enclave p batch house) ≡ Passed) where
+module _ (p batch house : List ℕ) (h : first (packing_checks Enclave p batch house) ≡ passed) where
   -- from record 1 on, the tables are 2 or above, and rise
   pub rows_above : (n : ℕ) → suc n < length p / 64 → (2 ≤ byte_of p (suc n) 0) × (byte_of p n 0 ≤ byte_of p (suc n) 0)
   rows_above n l =

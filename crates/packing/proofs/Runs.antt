@@ -1,17 +1,14 @@
 -- Runs of clean records of one table. Assumes nothing.
-use Rattle.std.proofs.Common.{ℕ, zero, suc, ◌+◌, ◌-◌, ◌/◌, ◌<◌, ◌≤◌, Bool, true, false, ◌&&◌, ◌≡◌, refl, ◌∙◌, sym, List, ltb, eqb, length, add-one, arith}
+use Rattle.std.proofs.Common.{ℕ, zero, suc, ◌+◌, ◌-◌, ◌/◌, ◌<◌, ◌≤◌, Bool, true, false, ◌&&◌, ◌≡◌, refl, ◌∙◌, sym, List, ltb, eqb, length, add-one, add-zero, arith}
 use borrow.Author.Tests.{eqb-true, le-leb, ltb-true, ne_eqb}
-use Rattle.answers.specs.declared.Outcome.TheVariants.{Passed}
-use Rattle.answers.specs.Checks.{first, run}
+use Rattle.answers.specs.Checks.{Check, first, run, passed}
 use Rattle.answers.proofs.Loops.{Remaining, run_next}
 use Rattle.answers.proofs.Laws.{first_past}
 use Rattle.schema.specs.Layout.{layouts}
-use Rattle.schema.specs.Rows.{byte_of}
+use Rattle.schema.specs.Bytes.{byte_of}
 use Rattle.packing.specs.declared.PackKind.{PackKind}
 use Rattle.packing.specs.declared.PackKind.TheVariants.{Enclave, Federate}
-use Rattle.packing.specs.declared.walker.Record.TheVariants.{At}
-use Rattle.packing.specs.Records.{record_at}
-use Rattle.packing.specs.Shape.{layout_of}
+use Rattle.packing.specs.Shape.{layout_of, shape_of}
 use Rattle.packing.specs.Packing.{table_after, in_place, record_checks}
 use Rattle.packing.specs.Clean.{head_clean, tail_clean, fields_clean, kind_clean, clean}
 use Rattle.packing.specs.Runs.{CleanRun}
@@ -92,57 +89,45 @@ follows-itself Federate t l e =
 again : (kind : PackKind) (p : List ℕ) (n : ℕ) → in_place kind p n ≡ true → 2 ≤ byte_of p n 0 → byte_of p (suc n) 0 ≡ byte_of p n 0 → in_place kind p (suc n) ≡ true
 again kind p n e l s = rw s (follows-itself kind (byte_of p n 0) l (known-by kind p n e l))
 
-module _ (kind : PackKind) (p batch house : List ℕ) (t : ℕ) (none : (layout_of t).identities ≡ 0) where
-  -- its checks pass
-  passes : (n : ℕ) → in_place kind p n ≡ true → byte_of p n 0 ≡ t → clean p n ≡ true → first (record_checks kind p batch house n) ≡ Passed
-  unfolding record_checks first run
-  passes n e s c = rw (e, c, s, none) refl
-
-  -- and those of a run of such records, up to its k-th
-  run-by : (limit r k n : ℕ) → CleanRun p t (suc n) limit r → suc n + k ≤ r → limit ≤ length p / 64 → in_place kind p n ≡ true → byte_of p n 0 ≡ t
-      → Remaining (record_checks kind p batch house) (suc n) (length p / 64)
-      → (in_place kind p (n + k) ≡ true) × Remaining (record_checks kind p batch house) (suc n + k) (length p / 64)
-  run-by limit r zero n c l m i s q =
-      let a : n + 0 ≡ n = omega arith in
-      let b : suc n + 0 ≡ suc n = omega arith in
-      rw (a, b) (i, q)
-  run-by limit r (suc k) n c l m i s q =
-      let v = c.inside in
-      let w = run-by limit r k n c (omega arith) m i s q in
-      let j = suc (n + k) in
-      let f : suc n + suc k ≡ j + 1 = omega arith in
-      let d : n + suc k ≡ j = omega arith in
-      let g : suc n + k ≡ j = omega arith in
-      let b = c.same j (omega arith) (omega arith) in
-      let o : byte_of p (n + k) 0 ≡ t = same-before limit r k n c (omega arith) s in
-      let i' : in_place kind p j ≡ true = again kind p (n + k) w.0 (rw o (no-identities t none)) (b ∙ sym o) in
-      let x = first_past (record_checks kind p batch house j) _ (passes j i' b (c.tidy j (omega arith) (omega arith))) in
-      let here : Remaining (record_checks kind p batch house) j (length p / 64) = rw g at w.1 in
-      let next : Remaining (record_checks kind p batch house) (j + 1) (length p / 64) = here ∙ rw (run_next (record_checks kind p batch house) j (length p / 64) (omega arith)) x in
-      rw (d, f) (i', next)
-    where
-      same-before : (limit r k n : ℕ) → CleanRun p t (suc n) limit r → suc n + k ≤ r → byte_of p n 0 ≡ t → byte_of p (n + k) 0 ≡ t
-      same-before limit r zero n c l s = let a : n + 0 ≡ n = omega arith in rw a s
-      same-before limit r (suc k) n c l s = c.same (n + suc k) (omega arith) (omega arith)
-
--- the record that the walker yields
-yielded : (p : List ℕ) (n t m : ℕ) → At t m ≡ record_at p n → (n < length p / 64) × (t ≡ byte_of p n 0)
-yielded p n t m e =
-    cases (ltb n (length p / 64))
-    (λ b. let h = rw b at e in let x : t ≡ byte_of p n 0 = cc in (ltb-true n (length p / 64) b, x))
-    (λ b. let h = rw b at e in cc)
-
-placed : (kind : PackKind) (p batch house : List ℕ) (n : ℕ) → first (record_checks kind p batch house n) ≡ Passed → in_place kind p n ≡ true
+placed : (kind : PackKind) (p batch house : List ℕ) (n : ℕ) → first (record_checks kind p batch house n) ≡ passed → in_place kind p n ≡ true
 unfolding record_checks first
 placed kind p batch house n e = cases (in_place kind p n) (λ b. b) (λ b. let h = rw b at e in cc)
 
+-- items that pass are passed over
+skip : (f : ℕ → List Check) (i k n : ℕ) → ((j : ℕ) → i ≤ j → j < i + k → first (f j) ≡ passed) → i + k ≤ n → Remaining f i n → Remaining f (i + k) n
+skip f i zero n h l r = rw add-zero r
+skip f i (suc k) n h l r =
+    let e : i + suc k ≡ i + k + 1 = omega arith in
+    let s = skip f i k n (λ j a b. h j a (omega arith)) (omega arith) r in
+    rw e (s ∙ rw (run_next f (i + k) n (omega arith)) (first_past (f (i + k)) _ (h (i + k) (omega arith) (omega arith))))
+
 -- after a record of a table without identities that passes, the run of clean ones of it is passed over
-module _ (kind : PackKind) (p batch house : List ℕ) (n t m r : ℕ) (y : At t m ≡ record_at p n) (c : CleanRun p t (n + 1) (length p / 64) r) where
-  pub run_passed : first (record_checks kind p batch house n) ≡ Passed → (layout_of t).identities ≡ 0 → Remaining (record_checks kind p batch house) n (length p / 64) → Remaining (record_checks kind p batch house) r (length p / 64)
-  run_passed q none r0 =
-      let l = (yielded p n t m y).0 in
-      let b = (yielded p n t m y).1 in
+module _ (kind : PackKind) (p batch house : List ℕ) (n t r : ℕ) (own : t ≡ byte_of p n 0) (none : (layout_of t).identities ≡ 0) (c : CleanRun p t (n + 1) (length p / 64) r) where
+  -- its records are in their places
+  in-places : in_place kind p n ≡ true → (k : ℕ) → n + k < r → (byte_of p (n + k) 0 ≡ t) × (in_place kind p (n + k) ≡ true)
+  in-places i zero l = let e : n + 0 ≡ n = omega arith in rw e (sym own, i)
+  in-places i (suc k) l =
+      let e : n + suc k ≡ suc (n + k) = omega arith in
+      let h = in-places i k (omega arith) in
+      let s : byte_of p (suc (n + k)) 0 ≡ t = c.same (suc (n + k)) (omega arith) (omega arith) in
+      rw e (s, again kind p (n + k) h.1 (rw h.0 (no-identities t none)) (s ∙ sym h.0))
+
+  passes : (j : ℕ) → in_place kind p j ≡ true → byte_of p j 0 ≡ t → clean p j ≡ true → first (record_checks kind p batch house j) ≡ passed
+  unfolding record_checks first run
+  passes j e s d = rw (e, d, s, none) refl
+
+  over-run : n < length p / 64 → first (record_checks kind p batch house n) ≡ passed → Remaining (record_checks kind p batch house) n (length p / 64) → Remaining (record_checks kind p batch house) r (length p / 64)
+  over-run l q rest =
       let a = c.after in
-      let e : suc n + (r - suc n) ≡ r = omega arith in
-      let next : Remaining (record_checks kind p batch house) (n + 1) (length p / 64) = r0 ∙ rw (run_next (record_checks kind p batch house) n (length p / 64) l) (first_past (record_checks kind p batch house n) _ q) in
-      rw e at (run-by kind p batch house t none (length p / 64) r (r - suc n) n (rw (add-one n) at c) (omega arith) (omega arith) (placed kind p batch house n q) (sym b) (rw (add-one n) at next)).1
+      let b = c.inside in
+      let e : n + (r - n) ≡ r = omega arith in
+      rw e at (skip (record_checks kind p batch house) n (r - n) (length p / 64) all (omega arith) rest)
+    where
+      all : (j : ℕ) → n ≤ j → j < n + (r - n) → first (record_checks kind p batch house j) ≡ passed
+      all j g h =
+          let k : n + (j - n) ≡ j = omega arith in
+          let w = rw k at (in-places (placed kind p batch house n q) (j - n) (omega arith)) in
+          below_or_not n j (λ m. passes j w.1 w.0 (c.tidy j (omega arith) (omega arith))) (λ m. let s : j ≡ n = omega arith in rw s q)
+
+pub run_passed : (kind : PackKind) (p batch house : List ℕ) (n m t r : ℕ) → CleanRun p t m (length p / 64) r → Remaining (record_checks kind p batch house) n (length p / 64) → m ≡ n + 1 → n < length p / 64 → t ≡ byte_of p n 0 → (shape_of t).identities ≡ 0 → first (record_checks kind p batch house n) ≡ passed → Remaining (record_checks kind p batch house) r (length p / 64)
+run_passed kind p batch house n m t r c rest e l own none q = over-run kind p batch house n t r own none (rw e at c) l q rest

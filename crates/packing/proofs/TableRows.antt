@@ -8,9 +8,8 @@ use native.Mathlib.Omega.{arith}
 use lib.ListN.{length}
 use borrow.Author.Tests.{leb-true, lt-ltb, le-ltb}
 use Rattle.identity.proofs.Tests.{cases}
-use Rattle.answers.specs.declared.Outcome.TheVariants.{Passed}
-use Rattle.answers.specs.Checks.{first}
-use Rattle.schema.specs.Rows.{byte_of}
+use Rattle.answers.specs.Checks.{first, passed}
+use Rattle.schema.specs.Bytes.{byte_of}
 use Rattle.schema.specs.Tables.{start_of}
 use Rattle.packing.specs.declared.PackKind.TheVariants.{Enclave}
 use Rattle.packing.specs.Packing.{packing_checks}
@@ -36,7 +35,7 @@ module _ (p : List ℕ) (t : ℕ) where
   at_first zero a u = absurd (omega arith)
   at_first (suc f) a u = cases (reaches p t a) (λ r. rw r r) (λ r. let v = rw r at u in rw r (at_first f (a + 1) (omega arith)))
 
-module _ (p batch house : List ℕ) (h : first (packing_checks Enclave p batch house) ≡ Passed) where
+module _ (p batch house : List ℕ) (h : first (packing_checks Enclave p batch house) ≡ passed) where
   abbrev start : ℕ → ℕ
   start t = start_of (table_starts p 1) t
 

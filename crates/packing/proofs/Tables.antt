@@ -6,14 +6,13 @@ use mathlib.Core.List.{List, [], ◌∷◌}
 use native.Mathlib.Omega.{arith}
 use lib.Dec.{ltb, leb, eqb}
 use lib.ListN.{get_or}
-use borrow.Author.Tests.{ltb-true, ltb-false, leb-true, eqb-true, le-ltb}
+use borrow.Author.Tests.{ltb-true, ltb-false, leb-true, eqb-true}
 use Rattle.identity.proofs.Tests.{cases, both}
 use Rattle.schema.specs.Number.{number}
 use Rattle.schema.specs.Layout.{Layout, plain, layouts, bytes, offset, field_at}
 use Rattle.schema.specs.Rows.{field}
 use Rattle.packing.specs.declared.shape.Governed.{Governed}
 use Rattle.packing.specs.Shape.{layout_of, used, governed, shape_of}
-use Rattle.packing.specs.Runs.{PlainShape, RowTable, ListTable}
 
 -- a test holds of every layout of a list
 every : (Layout → Bool) → List Layout → Bool
@@ -136,43 +135,6 @@ module _ (t j : ℕ) (h : j < (layout_of t).identities) where
   identity_len p n =
       let e : 8 + 8 * j ≡ 4 + 8 * j + 4 = omega arith in
       rw e at (w_field (layout_of t) (2 * j + 1) (8 + 8 * j) p n parts.1)
-
--- the tables 2 to 22 have no identities, and of these those from 8 on govern no field and end in the first half of the record
-unnamed_at : ℕ → Bool
-unnamed_at t = ltb t 2 || eqb (layout_of t).identities 0
-
-pub unnamed : (t : ℕ) → 2 ≤ t → t ≤ 22 → (layout_of t).identities ≡ 0
-unfolding layouts below unnamed_at
-unnamed t l h =
-    let e : unnamed_at t ≡ true = below_at unnamed_at 23 t refl (omega arith) in
-    eqb-true (layout_of t).identities 0 (rw (le-ltb t 2 l) at e)
-
-plain_at : ℕ → Bool
-plain_at t = ltb t 8 || (eqb (shape_of t).bit_0.len 0 && (eqb (shape_of t).bit_1.len 0 && leb (shape_of t).used 32))
-
-plain_lists : (t : ℕ) → 8 ≤ t → t ≤ 22 → PlainShape (shape_of t)
-unfolding layouts below plain_at
-plain_lists t l h =
-    let e : plain_at t ≡ true = below_at plain_at 23 t refl (omega arith) in
-    let a = both (eqb (shape_of t).bit_0.len 0) _ (rw (le-ltb t 8 l) at e) in
-    let b = both (eqb (shape_of t).bit_1.len 0) _ a.1 in
-    record { none_0 = eqb-true _ _ a.0; none_1 = eqb-true _ _ b.0; half = leb-true _ _ b.1 }
-
-pub row_by : (t : ℕ) → 2 ≤ t → t ≤ 22 → RowTable t
-row_by t l h = record { from = l; upto = h; unnamed = unnamed t l h }
-
-pub row_table : (t : ℕ) → leb 2 t && leb t 22 ≡ true → RowTable t
-row_table t e = let h = both (leb 2 t) (leb t 22) e in row_by t (leb-true _ _ h.0) (leb-true _ _ h.1)
-
-pub list_table : (t : ℕ) → leb 8 t && leb t 22 ≡ true → ListTable t
-list_table t e =
-    let h = both (leb 8 t) (leb t 22) e in
-    let l = leb-true 8 t h.0 in
-    let u = leb-true t 22 h.1 in
-    record { from = l; upto = u; shaped = plain_lists t l u }
-
-pub list_row : (t : ℕ) → ListTable t → RowTable t
-list_row t l = let f = l.from in row_by t (omega arith) l.upto
 
 pub ruleset identity_laws = (identities_few, identity_start, identity_len)
 

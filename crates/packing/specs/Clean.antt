@@ -2,7 +2,7 @@
 use Rattle.std.specs.Prelude.{ℕ, zero, suc, ◌+◌, ◌*◌, ◌-◌, Bool, true, not, ◌&&◌, ◌||◌, cond, List, ltb, leb, eqb, get_or}
 use Rattle.schema.specs.Layout as layout
 use Rattle.schema.specs.Layout.{Layout, offset}
-use Rattle.schema.specs.Rows.{byte_of, bit_of}
+use Rattle.schema.specs.Bytes.{byte_of, bit_of}
 use Rattle.packing.specs.Shape.{layout_of, used, governed_offset, governed_bytes}
 
 -- the k bytes of p from o are zero

@@ -1,14 +1,15 @@
 -- The packing rules in their order (document 01, "The pack" and "Packing"). Assumes nothing.
-use Rattle.std.specs.Prelude.{ℕ, zero, suc, ◌*◌, ◌/◌, ◌%◌, ◌<◌, ◌≤◌, Bool, ◌&&◌, ◌||◌, ◌≡◌, List, [], ◌∷◌, ltb, leb, eqb, length, Err}
+use Rattle.std.specs.Prelude.{ℕ, zero, suc, ◌*◌, ◌/◌, ◌%◌, ◌<◌, ◌≤◌, Bool, ◌&&◌, ◌||◌, ◌≡◌, List, [], ◌∷◌, ltb, leb, eqb, false, true, length, Result, Ok, Err}
 use Rattle.identity.specs.declared.IdentityPlace.{IdentityPlace}
 use Rattle.identity.specs.Utf8.{utf8}
 use Rattle.identity.specs.Text.{place_inside, identity_text}
+use Rattle.answers.specs.declared.Refusal.{Refusal}
 use Rattle.answers.specs.declared.Refusal.TheVariants.{Length, TextTooLong, TableOutOfPlace, StrayByte, IdentityOutside, NotUtf8}
 use Rattle.answers.specs.Checks.{Check, need, run, Outcome, passed}
 use Rattle.schema.specs.Layout.{layouts}
-use Rattle.schema.specs.Rows.{byte_of, bit_of, field, place}
-use Rattle.packing.specs.declared.PackAnswer.{PackAnswer}
-use Rattle.packing.specs.declared.PackAnswer.TheVariants as answer
+use Rattle.schema.specs.Bytes.{byte_of, bit_of}
+use Rattle.schema.specs.Rows.{field, place}
+use Rattle.schema.specs.declared.lent.Pack.{Pack}
 use Rattle.packing.specs.declared.PackKind.{PackKind}
 use Rattle.packing.specs.declared.PackKind.TheVariants.{Enclave, Federate}
 use Rattle.packing.specs.Shape.{layout_of}
@@ -58,20 +59,11 @@ record_checks kind p batch house n =
 unfoldable pub packing_checks : PackKind → List ℕ → List ℕ → List ℕ → List Check
 packing_checks kind p batch house =
     need (pack_fits p) Length
-    ∷ need (text_fits batch) (TextTooLong 0)
-    ∷ need (text_fits house) (TextTooLong 1)
+    ∷ need (text_fits batch) (TextTooLong false)
+    ∷ need (text_fits house) (TextTooLong true)
     ∷ run (record_checks kind p batch house) 0 (length p / 64)
 
--- the rules' answer as an outcome; the pack that passes is the one that was lent
-abbrev pub pack_outcome : PackAnswer → Outcome
-pack_outcome (answer.Pack pack) = passed
-pack_outcome (answer.Refused r) = Err r
-
-abbrev pub IsLent : List ℕ → PackAnswer → Type 0
-IsLent p (answer.Pack pack) = pack.bytes.now ≡ p
-IsLent p (answer.Refused r) = Unit {0}
-
--- it has a record, and no more bytes than the limit
-abbrev pub FitsLimit : PackAnswer → Type 0
-FitsLimit (answer.Pack pack) = (0 < length pack.bytes.now) × (length pack.bytes.now ≤ 4194304)
-FitsLimit (answer.Refused r) = Unit {0}
+-- the outcome of an answer that lends the pack where it passes
+abbrev pub pack_outcome : Result Pack Refusal → Outcome
+pack_outcome (Ok pack) = passed
+pack_outcome (Err r) = Err r

@@ -1,12 +1,15 @@
--- The records of a pack: 64 bytes each, the first of which is the table number. Assumes nothing.
-use Rattle.std.specs.Prelude.{ℕ, ◌+◌, ◌*◌, ◌/◌, cond, List, ltb, length}
-use Rattle.schema.specs.Rows.{byte_of}
-use Rattle.packing.specs.declared.walker.Record.{Record}
-use Rattle.packing.specs.declared.walker.Record.TheVariants.{At, End}
+-- How a walker goes over the records of a pack. Assumes nothing.
+use Rattle.std.specs.Prelude.{ℕ, ◌+◌, ◌/◌, ◌≤◌, ◌≡◌, cond, List, ltb, length, MatchOption}
+use Rattle.std.specs.declared.option.Option.{Option}
+use Rattle.schema.specs.declared.record.Record.{Record}
+use Rattle.packing.specs.declared.walker.RecordWalker.{RecordWalker}
 
--- the record at place n, and the place after it
-abbrev pub record_at : List ℕ → ℕ → Record
-record_at p n = cond (ltb n (length p / 64)) (At (byte_of p n 0) (n * 64)) End
-
+-- the place after place n; the end stays the end
 abbrev pub next_of : List ℕ → ℕ → ℕ
 next_of p n = cond (ltb n (length p / 64)) (n + 1) n
+
+-- the walker w yields the record at its place, or nothing at the pack's end, and is v then
+pub record Walks (w : RecordWalker) (r : Option Record) (v : RecordWalker) : Type 0 where
+  pub yields : MatchOption r (length w.pack.bytes.now / 64 ≤ w.place) (λ x. (x.bytes ≡ w.pack.bytes) × (x.number ≡ w.place))
+  pub same_pack : v.pack ≡ w.pack
+  pub moved : v.place ≡ next_of w.pack.bytes.now w.place

@@ -1,6 +1,6 @@
 -- Where each table of an enclave begins. Assumes nothing.
-use Rattle.std.specs.Prelude.{ℕ, zero, suc, ◌+◌, Bool, not, ◌||◌, cond, List, [], ◌∷◌, ◌++◌, ltb, leb, Ok, Err}
-use Rattle.schema.specs.Rows.{byte_of}
+use Rattle.std.specs.Prelude.{ℕ, zero, suc, ◌+◌, Bool, not, ◌||◌, cond, List, [], ◌∷◌, ◌++◌, ltb, leb}
+use Rattle.schema.specs.Bytes.{byte_of}
 use Rattle.schema.specs.Records.{records_of}
 
 -- record k is table t's first in its enclave, or past it: of table t or a later one, or of another enclave, or past the pack
@@ -24,8 +24,3 @@ starts_below p rows (suc k) = starts_below p rows k ++ (table_start p rows k ∷
 -- the starts of tables 0 to 24, and the enclave's end
 unfoldable pub table_starts : List ℕ → ℕ → List ℕ
 table_starts p rows = starts_below p rows 26
-
--- the starts after the packing rules of an enclave's pack p: its own where it passes, else s, as they were
-abbrev pub starts_after : Outcome → List ℕ → List ℕ → List ℕ
-starts_after (Ok u) p s = table_starts p 1
-starts_after (Err r) p s = s

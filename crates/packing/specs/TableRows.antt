@@ -1,6 +1,6 @@
 -- What the rows of a table are, by the bytes of a pack. Assumes nothing.
 use Rattle.std.specs.Prelude.{ℕ, ◌+◌, ◌/◌, ◌<◌, ◌≤◌, ◌≡◌, ◌↔◌, List, length}
-use Rattle.schema.specs.Rows.{byte_of}
+use Rattle.schema.specs.Bytes.{byte_of}
 use Rattle.schema.specs.Tables.{tables, start_of}
 use Rattle.packing.specs.Starts.{table_starts}
 

@@ -1,23 +1,22 @@
 // The packing rules: lengths, then record by record the table's place, stray bytes, and each identity's text.
-ghost use Rattle.std.specs.Prelude.{◌≡◌, ◌/◌, ◌<◌, ◌≤◌, length};
+ghost use Rattle.std.specs.Prelude.{◌≡◌, ◌/◌, ◌<◌, ◌≤◌, length, IfOk};
 ghost use Rattle.answers.specs.Checks.{first, run};
-ghost use Rattle.schema.specs.Rows.{byte_of};
+ghost use Rattle.schema.specs.Bytes.{byte_of};
 ghost use Rattle.packing.specs.Shape.{layout_of};
-ghost use Rattle.packing.specs.Packing.{row_after, first_table, table_after, in_place, identity_at, identity_checks, record_checks, packing_checks, pack_outcome, IsLent, FitsLimit};
-ghost use Rattle.packing.specs.Starts.{starts_after};
+ghost use Rattle.packing.specs.Packing.{row_after, first_table, table_after, in_place, identity_at, identity_checks, record_checks, packing_checks, pack_outcome};
 
+use crate::PackKind;
 use crate::clean::{clean, past_clean};
 use crate::shape::shape_of;
-use crate::starts::table_starts;
-use crate::walker::{Record, walker_at};
-use crate::{PackAnswer, PackKind};
-use answers::{Outcome, Refusal};
+use crate::walker::RecordWalker;
+use answers::Refusal;
 use identity::IdentityPlace;
-use identity::place::{identity_text, place_inside};
 use identity::scan::is_utf8;
-use schema::lent::{PACK_LIMIT, Pack, TABLES, TableStarts, has_bit};
+use identity::texts::Texts;
+use schema::lent::{PACK_LIMIT, Pack, TABLES};
+use schema::record::Record;
 
-const TEXT_LIMIT: usize = 65_536;
+pub const TEXT_LIMIT: usize = 65_536;
 
 // Whether a record of `table` may follow one of `previous`.
 #[tactic(auto, unfolding(schema::specs::Layout::layouts))]
@@ -27,130 +26,134 @@ fn row_after(previous: u8, table: u8) -> bool
     2 <= table && usize::from(table) < TABLES && previous <= table
 }
 
-fn table_after(kind: PackKind, previous: u8, table: u8) -> bool
-    ensures { result ≡ table_after kind previous table }
-{
-    match kind {
-        PackKind::Enclave => row_after(previous, table),
-        PackKind::Federate => table == 1 || (1 <= previous && row_after(previous, table)),
+impl PackKind {
+    fn first_table(self) -> u8
+        ensures { result ≡ first_table self }
+    {
+        match self {
+            PackKind::Enclave => 1,
+            PackKind::Federate => 0,
+        }
+    }
+
+    // Whether a record of `table` may follow one of `previous` in such a pack.
+    fn table_after(self, previous: u8, table: u8) -> bool
+        ensures { result ≡ table_after self previous table }
+    {
+        match self {
+            PackKind::Enclave => row_after(previous, table),
+            PackKind::Federate => table == 1 || (1 <= previous && row_after(previous, table)),
+        }
     }
 }
 
-fn first_table(kind: PackKind) -> u8
-    ensures { result ≡ first_table kind }
-{
-    match kind {
-        PackKind::Enclave => 1,
-        PackKind::Federate => 0,
-    }
-}
-
-// Whether record n, of `table`, is in its place.
+// Whether a record's table is in its place.
 #[tactic(auto, using(crate::proofs::Packed::place_laws))]
-fn in_place(kind: PackKind, pack: Pack, n: usize, table: u8) -> bool
-    requires inside { n < length pack.bytes.now / 64 }
-    requires own { table ≡ byte_of pack.bytes.now n 0 }
-    ensures { result ≡ in_place kind pack.entry.bytes.now n }
+fn in_place(kind: PackKind, item: Record) -> bool
+    ensures { result ≡ in_place kind item.entry.bytes.now item.entry.number }
 {
-    if n == 0 {
-        return table == first_table(kind);
+    if item.number == 0 {
+        return item.table() == kind.first_table();
     }
-    table_after(kind, pack.byte(n - 1, 0), table)
+    let previous = Record {
+        bytes: item.bytes,
+        number: item.number - 1,
+    };
+    kind.table_after(previous.table(), item.table())
 }
 
 // The place of identity j.
 #[tactic(auto, using(crate::proofs::Tables::identity_laws))]
-fn identity_at(pack: Pack, n: usize, j: u8) -> IdentityPlace
-    requires inside { n < length pack.bytes.now / 64 }
-    requires named { j < (layout_of (byte_of pack.bytes.now n 0)).identities }
-    ensures { result ≡ identity_at pack.entry.bytes.now n j }
+fn identity_at(item: Record, j: u8) -> IdentityPlace
+    requires { j < (layout_of (byte_of item.bytes.now item.number 0)).identities }
+    ensures { result ≡ identity_at item.entry.bytes.now item.entry.number j }
 {
-    let house = has_bit(pack.byte(n, 1), u32::from(j));
-    pack.place(n, 4 + 8 * usize::from(j), house)
+    item.place(item.has(u32::from(j)), 4 + 8 * usize::from(j))
 }
 
-// The checks of identity j.
-#[tactic(auto, unfolding(answers::specs::Checks::first, crate::specs::Packing::identity_checks))]
-fn check_identity(pack: Pack, batch: &[u8], house: &[u8], n: usize, j: u8) -> Outcome
-    requires inside { n < length pack.bytes.now / 64 }
-    requires few { length pack.bytes.now ≤ 4194304 }
-    requires named { j < (layout_of (byte_of pack.bytes.now n 0)).identities }
-    ensures { result ≡ first (identity_checks pack.entry.bytes.now batch.now house.now n j) }
-{
-    let place = identity_at(pack, n, j);
-    if !place_inside(batch, house, place) {
-        return Outcome::Refused(Refusal::IdentityOutside { record: n as u32 });
-    }
-    if !is_utf8(identity_text(batch, house, place)) {
-        return Outcome::Refused(Refusal::NotUtf8 { record: n as u32 });
-    }
-    Outcome::Passed
+// A record of a pack within the limit, and the texts that its identities are parts of.
+#[derive(Clone, Copy)]
+struct Named<'a> {
+    item: Record<'a>,
+    texts: Texts<'a>,
+    ghost few: { length item.bytes.now ≤ 4194304 },
 }
 
-// The checks of a record's identities, `count` of them, in field order.
-#[tactic(auto, using(answers::proofs::Loops::run_laws))]
-fn check_identities(pack: Pack, batch: &[u8], house: &[u8], n: usize, count: u8) -> Outcome
-    requires inside { n < length pack.bytes.now / 64 }
-    requires few { length pack.bytes.now ≤ 4194304 }
-    requires all { count ≡ (layout_of (byte_of pack.bytes.now n 0)).identities }
-    ensures { result ≡ first (run (identity_checks pack.entry.bytes.now batch.now house.now n) 0 count) }
-{
-    for j in 0..count {
-        let outcome = check_identity(pack, batch, house, n, j);
-        let Outcome::Passed = outcome else {
-            return outcome;
-        };
+impl<'a> Named<'a> {
+    // The record's number, as refusals carry it.
+    fn number(self) -> u32
+        ensures { result ≡ self.entry.item.number }
+    {
+        self.item.number as u32
     }
-    Outcome::Passed
-}
 
-// The checks of record n, of `table`.
-#[tactic(auto, unfolding(answers::specs::Checks::first, crate::specs::Packing::record_checks))]
-fn check_record(
-    kind: PackKind,
-    pack: Pack,
-    batch: &[u8],
-    house: &[u8],
-    n: usize,
-    table: u8,
-) -> Outcome
-    requires inside { n < length pack.bytes.now / 64 }
-    requires few { length pack.bytes.now ≤ 4194304 }
-    requires own { table ≡ byte_of pack.bytes.now n 0 }
-    ensures { result ≡ first (record_checks kind pack.entry.bytes.now batch.now house.now n) }
-{
-    if !in_place(kind, pack, n, table) {
-        return Outcome::Refused(Refusal::TableOutOfPlace { record: n as u32 });
+    // The checks of identity j.
+    #[tactic(auto, unfolding(answers::specs::Checks::first, crate::specs::Packing::identity_checks))]
+    fn check_identity(self, j: u8) -> Result<(), Refusal>
+        requires { j < (layout_of (byte_of self.item.bytes.now self.item.number 0)).identities }
+        ensures { let r = self.entry.item in let t = self.entry.texts in result ≡ first (identity_checks r.bytes.now t.batch.now t.house.now r.number j) }
+    {
+        let place = identity_at(self.item, j);
+        if !self.texts.holds(place) {
+            return Err(Refusal::IdentityOutside {
+                record: self.number(),
+            });
+        }
+        if !is_utf8(self.texts.identity_text(place)) {
+            return Err(Refusal::NotUtf8 {
+                record: self.number(),
+            });
+        }
+        Ok(())
     }
-    let shape = shape_of(table);
-    if !clean(pack.bytes, n, table, shape) {
-        return Outcome::Refused(Refusal::StrayByte { record: n as u32 });
+
+    // The checks of the record's identities, in field order.
+    #[tactic(auto, using(answers::proofs::Loops::run_laws))]
+    fn check_identities(self) -> Result<(), Refusal>
+        ensures { let r = self.entry.item in let t = self.entry.texts in let p = r.bytes.now
+            in result ≡ first (run (identity_checks p t.batch.now t.house.now r.number) 0 (layout_of (byte_of p r.number 0)).identities) }
+    {
+        for j in 0..shape_of(self.item.table()).identities {
+            self.check_identity(j)?;
+        }
+        Ok(())
     }
-    check_identities(pack, batch, house, n, shape.identities)
+
+    // The checks of the record, in a pack of that kind.
+    #[tactic(auto, unfolding(answers::specs::Checks::first, crate::specs::Packing::record_checks))]
+    fn check(self, kind: PackKind) -> Result<(), Refusal>
+        ensures { let r = self.entry.item in let t = self.entry.texts in result ≡ first (record_checks kind r.bytes.now t.batch.now t.house.now r.number) }
+    {
+        if !in_place(kind, self.item) {
+            return Err(Refusal::TableOutOfPlace {
+                record: self.number(),
+            });
+        }
+        if !clean(self.item) {
+            return Err(Refusal::StrayByte {
+                record: self.number(),
+            });
+        }
+        self.check_identities()
+    }
 }
 
 // The checks of all records, as the walker yields them. Where a table has no identities, the clean records of it that follow pass.
 #[tactic(auto, using(answers::proofs::Loops::run_laws))]
-fn check_records(kind: PackKind, pack: Pack, batch: &[u8], house: &[u8]) -> Outcome
+fn check_records(kind: PackKind, pack: Pack, texts: Texts) -> Result<(), Refusal>
     requires { length pack.bytes.now ≤ 4194304 }
-    ensures { let p = pack.entry.bytes.now in result ≡ first (run (record_checks kind p batch.now house.now) 0 (length p / 64)) }
+    ensures { let p = pack.entry.bytes.now in let t = texts.entry
+        in result ≡ first (run (record_checks kind p t.batch.now t.house.now) 0 (length p / 64)) }
 {
-    let mut walker = walker_at(pack.bytes, 0);
-    loop {
-        let n = walker.place;
-        let record = walker.step();
-        let Record::At { table, .. } = record else {
-            return Outcome::Passed;
-        };
-        let outcome = check_record(kind, pack, batch, house, n, table);
-        let Outcome::Passed = outcome else {
-            return outcome;
-        };
-        let shape = shape_of(table);
-        if shape.identities == 0 {
-            walker.place = past_clean(pack.bytes, n + 1, table, shape, pack.records());
+    let mut walker = RecordWalker { pack, place: 0 };
+    while let Some(item) = walker.next() {
+        Named { item, texts }.check(kind)?;
+        let table = item.table();
+        if shape_of(table).identities == 0 {
+            walker.place = past_clean(pack, walker.place, table);
         }
     }
+    Ok(())
 }
 
 // The pack of these bytes, where it passes the packing rules over its two texts.
@@ -158,52 +161,37 @@ fn check_records(kind: PackKind, pack: Pack, batch: &[u8], house: &[u8]) -> Outc
 pub fn checked_pack<'a>(
     kind: PackKind,
     bytes: &'a [u8],
-    batch: &[u8],
-    house: &[u8],
-) -> PackAnswer<'a>
-    ensures outcome { pack_outcome result ≡ first (packing_checks kind bytes.now batch.now house.now) }
-    ensures lent { IsLent bytes.now result }
-    ensures fits { FitsLimit result }
+    texts: Texts,
+) -> Result<Pack<'a>, Refusal>
+    ensures outcome { pack_outcome result ≡ first (packing_checks kind bytes.now texts.entry.batch.now texts.entry.house.now) }
+    ensures lent { IfOk result (λ pack. pack.bytes.now ≡ bytes.now) }
+    ensures some { IfOk result (λ pack. 0 < length pack.bytes.now) }
+    ensures few { IfOk result (λ pack. length pack.bytes.now ≤ 4194304) }
 {
     let len = bytes.len();
     if len == 0 || PACK_LIMIT < len || len % 64 != 0 {
-        return PackAnswer::Refused(Refusal::Length);
+        return Err(Refusal::Length);
     }
-    if TEXT_LIMIT < batch.len() {
-        return PackAnswer::Refused(Refusal::TextTooLong { text: 0 });
+    if TEXT_LIMIT < texts.batch.len() {
+        return Err(Refusal::TextTooLong { house: false });
     }
-    if TEXT_LIMIT < house.len() {
-        return PackAnswer::Refused(Refusal::TextTooLong { text: 1 });
+    if TEXT_LIMIT < texts.house.len() {
+        return Err(Refusal::TextTooLong { house: true });
     }
     let pack = Pack { bytes };
-    match check_records(kind, pack, batch, house) {
-        Outcome::Passed => PackAnswer::Pack(pack),
-        Outcome::Refused(r) => PackAnswer::Refused(r),
-    }
+    check_records(kind, pack, texts)?;
+    Ok(pack)
 }
 
 // The packing rules of a pack over its two texts.
-pub fn check_packing(kind: PackKind, pack: &[u8], batch: &[u8], house: &[u8]) -> Outcome
-    ensures { result ≡ first (packing_checks kind pack.now batch.now house.now) }
-{
-    checked_pack(kind, pack, batch, house).outcome()
-}
-
-// The rules of an enclave's pack. Where it passes, `starts` holds where its tables begin; else it is left as it was.
-pub fn check_enclave_packing(
+pub fn check_packing(
+    kind: PackKind,
     pack: &[u8],
     batch: &[u8],
     house: &[u8],
-    starts: &mut TableStarts,
-) -> Outcome
-    ensures value { result ≡ first (packing_checks PackKind.Enclave pack.now batch.now house.now) }
-    ensures starts_after { starts.new ≡ starts_after result pack.now starts.old }
+) -> Result<(), Refusal>
+    ensures { result ≡ first (packing_checks kind pack.now batch.now house.now) }
 {
-    match checked_pack(PackKind::Enclave, pack, batch, house) {
-        PackAnswer::Pack(_) => {
-            *starts = table_starts(pack, 1);
-            Outcome::Passed
-        }
-        PackAnswer::Refused(r) => Outcome::Refused(r),
-    }
+    checked_pack(kind, pack, Texts { batch, house })?;
+    Ok(())
 }

@@ -1,9 +1,8 @@
 // What the packing rules ask of each table's layout, as data.
-ghost use Rattle.std.specs.Prelude.{◌≡◌, true, ◌&&◌, leb};
-ghost use Rattle.packing.specs.Runs.{ListTable, RowTable};
+ghost use Rattle.std.specs.Prelude.{◌≡◌};
 ghost use Rattle.packing.specs.Shape.{shape_of};
 
-pub use schema::lent::TABLES;
+use schema::lent::TABLES;
 
 // The bytes of a record that a presence bit governs: `len` of them from `offset`.
 #[derive(Clone, Copy)]
@@ -143,23 +142,4 @@ pub fn shape_of(table: u8) -> Shape
         return SHAPES[t];
     }
     NO_FIELDS
-}
-
-// The tables of lists, up to the last one: they govern no field.
-pub const LAST_LIST: u8 = 22;
-
-pub fn is_list(table: u8) -> bool
-    ensures value { result ≡ (leb 8 table && leb table 22) }
-    ensures list_table { result ≡ true → ListTable table }
-{
-    (8 <= table) & (table <= LAST_LIST)
-}
-
-// The tables of an enclave's rows that have no identities.
-#[tactic(auto, using(crate::proofs::Tables::row_table))]
-pub fn is_row(table: u8) -> bool
-    ensures value { result ≡ (leb 2 table && leb table 22) }
-    ensures row_table { result ≡ true → RowTable table }
-{
-    (2 <= table) & (table <= LAST_LIST)
 }

@@ -1,22 +1,15 @@
 // Packs by hand for each packing refusal, a line for each: what is set in it, and the library's answer.
 #![tactic(auto)]
 
-ghost use Rattle.std.specs.Prelude.{◌<◌, ◌≤◌, length};
+ghost use Rattle.std.specs.Prelude.{◌≤◌};
 
-use answers::{Outcome, Refusal};
 use packing::PackKind;
-use packing::rules::check_packing;
+use packing::rules::{TEXT_LIMIT, check_packing};
+use packing::shape::shape_of;
 use packing::starts::table_starts;
 use schema::lent::PACK_LIMIT;
 use std::io;
 use std::io::Write;
-
-// How many bytes a record of each table uses.
-const USED: [u8; 25] = [
-    44, 48, 44, 32, 20, 56, 12, 64, 12, 8, 8, 8, 8, 8, 8, 16, 12, 16, 16, 16, 16, 16, 8, 24, 12,
-];
-
-const TEXT_LIMIT: usize = 65_536;
 
 // A record more than a pack may have.
 const MOST: usize = PACK_LIMIT + 64;
@@ -27,16 +20,6 @@ const BATCH: &[u8] = b"ab\xC3\xA9";
 // `h`, and a byte that no UTF-8 has.
 const HOUSE: &[u8] = b"h\xFF";
 
-// Writes a refusal's number and the values after it.
-fn refused<W: Write>(out: &mut W, refusal: Refusal) -> io::Result<()> {
-    let list = answers::numbers(refusal);
-    write!(out, " refused")?;
-    for n in list.values.iter().take(list.len) {
-        write!(out, " {n}")?;
-    }
-    writeln!(out)
-}
-
 // The answer for a pack over two texts.
 fn write_answer<W: Write>(
     out: &mut W,
@@ -46,28 +29,17 @@ fn write_answer<W: Write>(
     house: &[u8],
 ) -> io::Result<()> {
     match check_packing(kind, pack, batch, house) {
-        Outcome::Passed => writeln!(out, " packed"),
-        Outcome::Refused(refusal) => refused(out, refusal),
-    }
-}
-
-// The number of a digit in hexadecimal.
-fn digit(c: u8) -> u8
-    ensures { result < 16 }
-{
-    match c {
-        b'0'..=b'9' => c - b'0',
-        b'A'..=b'F' => c - b'A' + 10,
-        _ => 0,
+        Ok(()) => writeln!(out, " packed"),
+        Err(refusal) => writeln!(out, " refused {refusal}"),
     }
 }
 
 // Four digits in hexadecimal: a byte's place in its record, and its value.
-fn set_byte(record: &mut [u8], item: &[u8]) {
-    if let [a, b, c, d] = item {
-        let at = digit(*a) << 4 | digit(*b);
+fn set_byte(record: &mut [u8], item: &str) {
+    if let Ok(set) = u16::from_str_radix(item, 16) {
+        let [at, value] = set.to_be_bytes();
         if let Some(byte) = record.get_mut(usize::from(at)) {
-            *byte = digit(*c) << 4 | digit(*d);
+            *byte = value;
         }
     }
 }
@@ -75,49 +47,24 @@ fn set_byte(record: &mut [u8], item: &[u8]) {
 // Room for a record of each table.
 type Room = [u8; 1600];
 
-// Puts the pack that a text names at the start of the room, and answers its length: records with slashes between them, bytes with blanks
-// between them.
-fn build(room: &mut Room, text: &str) -> usize
-    ensures { result ≤ 1600 }
-{
+// The pack that a text names, at the start of the room: records with slashes between them, bytes with blanks between them.
+fn build<'a>(room: &'a mut Room, text: &str) -> &'a [u8] {
     for (record, items) in room.chunks_exact_mut(64).zip(text.split('/')) {
         record.fill(0);
         for item in items.split(' ') {
-            set_byte(record, item.as_bytes());
+            set_byte(record, item);
         }
     }
-    text.split('/').count().min(25) * 64
-}
-
-// The place of the first bar from `at` on, or the list's end.
-fn bar(list: &[u8], at: usize) -> usize
-    requires { at ≤ length list.now }
-    ensures from { at ≤ result }
-    ensures inside { result ≤ length list.now }
-{
-    let mut i = at;
-    while i < list.len() {
-        if list[i] == b'|' {
-            return i;
-        }
-        i += 1;
-    }
-    i
+    &room[..text.split('/').count().min(25) * 64]
 }
 
 // A heading, and each pack of a list that has bars between them.
 fn show_packs<W: Write>(out: &mut W, kind: PackKind, heading: &str, packs: &str) -> io::Result<()> {
     writeln!(out, "{heading}")?;
     let mut room = [0u8; 1600];
-    let mut at = 0;
-    while at <= packs.len() {
-        let end = bar(packs.as_bytes(), at);
-        if let Some(text) = packs.get(at..end) {
-            let len = build(&mut room, text);
-            write!(out, "{text}")?;
-            write_answer(out, kind, &room[..len], BATCH, HOUSE)?;
-        }
-        at = end + 1;
+    for text in packs.split('|') {
+        write!(out, "{text}")?;
+        write_answer(out, kind, build(&mut room, text), BATCH, HOUSE)?;
     }
     Ok(())
 }
@@ -155,7 +102,7 @@ fn show_table<W: Write>(out: &mut W, table: u8, used: u8) -> io::Result<()> {
 fn tables<W: Write>(out: &mut W) -> io::Result<()> {
     writeln!(out, "one byte of a record")?;
     for table in 0..25 {
-        show_table(out, table, USED[table as usize])?;
+        show_table(out, table, shape_of(table).used)?;
     }
     Ok(())
 }
@@ -294,9 +241,8 @@ fn lengths_within<const ROOM: usize>(rt: &HostRuntime) -> io::Result<()>
 // Where the tables of the enclave begin whose rows start at record `rows`.
 fn show_starts<W: Write>(out: &mut W, text: &str, rows: u32) -> io::Result<()> {
     let mut room = [0u8; 1600];
-    let len = build(&mut room, text);
     write!(out, "{text} from {rows}:")?;
-    for start in &table_starts(&room[..len], rows) {
+    for start in &table_starts(build(&mut room, text), rows).firsts {
         write!(out, " {start}")?;
     }
     writeln!(out)

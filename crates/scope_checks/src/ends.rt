@@ -136,7 +136,7 @@ pub fn moved_ends(
 }
 
 // A row by value: its references, then its ranges.
-#[tactic(auto, using(answers::proofs::Laws::list_laws, crate::proofs::EndsLaws::answer_laws), unfolding(crate::specs::Scopes::scope_row_checks))]
+#[tactic(auto, using(answers::proofs::Laws::list_laws, answers::proofs::Laws::answer_laws), unfolding(crate::specs::Scopes::scope_row_checks))]
 pub fn moved_row(
     e: &Enclave,
     key: ScopeIndex,

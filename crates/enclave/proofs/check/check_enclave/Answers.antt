@@ -1,25 +1,30 @@
 -- A pack that is not packed, and the answer of one that is.
-use Rattle.std.proofs.Common.{ap, ◌∙◌, List, ℕ}
-use Rattle.enclave.proofs.Whole.{packing_refused, packed_answer, same_image}
-use Rattle.enclave.specs.Answer.{image_result}
+use Rattle.std.proofs.Common.{◌≡◌, ◌∙◌, sym, ap, rules, arith}
+use Rattle.std.specs.Prelude.{Err}
+use Rattle.answers.specs.Checks.{first, passed}
+use Rattle.packing.specs.declared.PackKind.TheVariants.{Enclave}
+use Rattle.packing.specs.Packing.{packing_checks}
 use Rattle.packing.specs.Starts.{table_starts}
+use Rattle.checks.specs.Image.{image_of}
+use Rattle.enclave.specs.Answer.{answer_numbers, image_result, pack_image}
+use Rattle.enclave.proofs.Whole.{packing_refused, packed_answer, image_is}
 use Rattle.enclave.proofs.check.check_enclave.Goals as goal
 
-pub returns-in-Refused : goal.returns-in-Refused
-returns-in-Refused c =
-    packing_refused c.args.pack.now c.args.batch.now c.args.house.now c.in-Refused.r c.in-Refused.ensures.outcome
+pub returns-in_err-pack : goal.returns-in_err-pack
+returns-in_err-pack c =
+    let h : first (packing_checks Enclave c.args.pack.now c.args.batch.now c.args.house.now) ≡ Err c.in_err-pack.field-0.0 = search rules in
+    let k = packing_refused c.args.pack.now c.args.batch.now c.args.house.now h in
+    grind (arith, k)
 
 pub returns : goal.returns
 returns c =
-    let e = c.enclave.ensures in
-    let lent = c.in-Pack.ensures.lent in
-    let image =
-    same_image c.args.pack.now c.enclave.result.pack.bytes.now c.args.batch.now c.enclave.result.batch.now c.args.house.now c.enclave.result.house.now
-    (table_starts c.args.pack.now 1) c.enclave.result.starts.now c.enclave.result.own
-    (ap (λ x. x.bytes.now) e.pack ∙ lent)
-    (ap (λ x. x.now) e.batch)
-    (ap (λ x. x.now) e.house)
-    (ap (λ x. x.now) e.starts ∙ (c.table_starts-starts.ensures ∙ ap (λ (p : List ℕ). table_starts p 1) lent))
-    e.own in
-    packed_answer c.args.pack.now c.args.batch.now c.args.house.now c.check_image.result c.in-Pack.ensures.outcome
-    (c.check_image.ensures ∙ ap image_result image)
+    let p = c.args.pack.now in
+    let packed : first (packing_checks Enclave p c.args.batch.now c.args.house.now) ≡ passed = search rules in
+    let bytes : c.enclave.result.pack.bytes.now ≡ p = search rules in
+    let batch : c.enclave.result.texts.batch.now ≡ c.args.batch.now = search rules in
+    let house : c.enclave.result.texts.house.now ≡ c.args.house.now = search rules in
+    let firsts : c.enclave.result.starts.now.firsts ≡ table_starts p 1 = search rules in
+    let own : c.enclave.result.own ≡ 0 = search rules in
+    let same = image_is p c.args.batch.now c.args.house.now c.enclave.result bytes batch house firsts own in
+    let k = packed_answer p c.args.batch.now c.args.house.now packed in
+    ap answer_numbers (c.check_image.ensures ∙ ap image_result same) ∙ sym k

@@ -1,17 +1,16 @@
 -- The run after a record is passed over.
-use Rattle.std.proofs.Common.{ap, sym, ◌∙◌}
+use Rattle.std.proofs.Common.{rules, arith, ap, sym, ◌≡◌, ◌∙◌, ◌+◌}
 use Rattle.packing.proofs.Runs.{run_passed}
 use Rattle.packing.proofs.rules.check_records.Goals as goal
 
-pub loop-table-preserved-then-shape-eq0 : goal.loop-table-preserved-then-shape-eq0
-loop-table-preserved-then-shape-eq0 c =
-    let yields = rw c.loop-table.invariant.0 at c.in-At.ensures.record in
-    let past = rw c.records.ensures at c.past_clean.ensures in (
-      c.step-record.ensures.same_pack ∙ c.loop-table.invariant.0,
-      past.inside,
-      run_passed c.args.kind c.args.pack.bytes.now c.args.batch.now c.args.house.now c.loop-table.walker.place c.in-At.table c.in-At.start c.past_clean.result yields
-          past
-          (sym c.in-Passed.ensures)
-          (sym (ap (λ s. s.identities) c.shape_of-shape.ensures) ∙ c.if-shape-eq0.true)
-          c.loop-table.invariant.2,
-    )
+pub loop-item-preserved-then-shape_of-eq0 : goal.loop-item-preserved-then-shape_of-eq0
+loop-item-preserved-then-shape_of-eq0 c =
+    let w = c.in-Some.ensures.steps in
+    let bytes = w.yields.0 ∙ ap (λ p. p.bytes) c.loop-item.invariant.same_pack in
+    let item = rw (bytes, w.yields.1) at c.table-table.ensures in
+    let place : c.next.new.self.place ≡ c.loop-item.walker.place + 1 = search rules in
+    record {
+      same_pack = search rules;
+      inside = search rules;
+      left = run_passed _ _ _ _ c.loop-item.walker.place _ _ _ c.past_clean.ensures c.loop-item.invariant.left place (search rules) item (search rules) (search rules);
+    }

@@ -1,6 +1,6 @@
 -- No more than the k bytes are taken.
 use Rattle.std.proofs.Common.{◌≤◌}
-use Rattle.identity.proofs.scan.whole_scalars.Given as goal
+use Rattle.identity.proofs.scan.Inner.whole_scalars.Given as goal
 
 abbrev pub invariant-loop-w : goal.invariant-loop-w
 invariant-loop-w l = l.w ≤ l.k
