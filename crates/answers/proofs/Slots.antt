@@ -3,7 +3,7 @@ use mathlib.Core.Bool.{Bool, true, false, ◌&&◌, and_assoc, true≢false}
 use mathlib.Core.Path.{◌≡◌, refl, ◌∙◌, ap, sym}
 use mathlib.Core.List.{List, [], ◌∷◌, ◌++◌}
 use Rattle.identity.proofs.Tests.{cases}
-use Rattle.answers.specs.Checks.{Check, need, first, Outcome, passed}
+use Rattle.answers.specs.Checks.{Check, need, first, passed}
 use Rattle.answers.specs.Slots.{is_slot, without_slots, slots_hold}
 
 -- what passes, passes without the slot checks, and its slot checks hold

@@ -1,6 +1,6 @@
 -- The whole order of the enclave's checks, as the code goes through it, and the answer at each place where it can stop. Assumes nothing.
 use Rattle.std.proofs.Common.{ℕ, ◌≡◌, refl, ◌∙◌, ap, sym, List, [], ◌∷◌, ◌++◌, append_assoc}
-use Rattle.std.specs.Prelude.{Result, Ok, Err}
+use Rattle.std.specs.Prelude.{Ok, Err}
 use Rattle.std.proofs.lemmas.List.{append-nil}
 use Rattle.answers.specs.declared.Refusal.{Refusal}
 use Rattle.answers.specs.Checks.{Check, first, run, Outcome, passed, answer_of}
@@ -12,7 +12,7 @@ use Rattle.packing.specs.declared.PackKind.TheVariants.{Enclave}
 use Rattle.packing.specs.Packing.{packing_checks}
 use Rattle.scope_checks.specs.Scopes.{scope_checks}
 use Rattle.scope_checks.specs.Links.{cycle_checks, links}
-use Rattle.enclave.specs.Passes.{Pass, head_passes, table_passes, row_passes, scope_passes, reaction_list_passes, scope_list_passes, entry_passes, enclave_list_passes, list_passes, passes, pass_checks, checks_of, enclave_checks, checks_before_parents}
+use Rattle.enclave.specs.Passes.{Pass, head_passes, table_passes, row_passes, scope_passes, reaction_list_passes, scope_list_passes, entry_passes, enclave_list_passes, list_passes, passes, pass_checks, checks_of, enclave_checks}
 use Rattle.answers.specs.Numbers.{numbers}
 use Rattle.enclave.specs.Answer.{answer_numbers, image_result, unless, image_answer, pack_image, enclave_answer}
 

@@ -8,7 +8,7 @@ pub mod texts;
 
 // The place of an identity: which lent text, where it starts, how long it is.
 // `house` is a bit of the pack, so it is a `bool`.
-#[derive(Clone, Copy, Debug, PartialEq, Eq)]
+#[derive(Clone, Copy, Debug, Default, PartialEq, Eq)]
 pub struct IdentityPlace {
     pub house: bool,
     pub start: u32,

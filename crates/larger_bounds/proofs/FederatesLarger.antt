@@ -9,7 +9,8 @@ use Rattle.answers.specs.Numbers.{numbers}
 use Rattle.answers.specs.Checks.{first}
 use Rattle.answers.specs.Slots.{SlotRefusal}
 use Rattle.answers.proofs.Looser.{Looser, done, looser-same, looser-append, looser-run, looser-stays}
-use Rattle.schema.specs.Rows.{byte_of, federate_at}
+use Rattle.schema.specs.Bytes.{byte_of}
+use Rattle.schema.specs.Rows.{federate_at}
 use Rattle.schema.specs.Records.{records_of, is_of}
 use Rattle.scope_checks.specs.Links.{links}
 use Rattle.enclave.specs.Passes.{enclave_checks}

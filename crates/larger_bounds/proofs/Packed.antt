@@ -6,7 +6,7 @@ use native.Mathlib.Decide.{dec_le}
 use native.Mathlib.Omega.{arith}
 use lib.ListN.{length, get_or-eq_default}
 use borrow.Author.Tests.{eqb-true}
-use Rattle.schema.specs.Rows.{byte_of}
+use Rattle.schema.specs.Bytes.{byte_of}
 use Rattle.packing.specs.declared.PackKind.TheVariants.{Enclave, Federate}
 use Rattle.packing.proofs.Packed.{fits, placed-at, rows_above}
 use Rattle.larger_bounds.specs.Packs.{Packed}

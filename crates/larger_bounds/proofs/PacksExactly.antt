@@ -4,13 +4,12 @@ use mathlib.Core.Path.{◌≡◌, refl, ap}
 use mathlib.Core.List.{List, [], ◌∷◌}
 use native.Mathlib.Omega.{arith}
 use lib.ListN.{length, get_or}
-use Rattle.answers.specs.declared.Outcome.{Outcome}
-use Rattle.answers.specs.declared.Outcome.TheVariants.{Passed, Refused}
+use Rattle.std.specs.Prelude.{Ok, Err}
 use Rattle.answers.specs.Numbers.{numbers}
-use Rattle.answers.specs.Checks.{first}
+use Rattle.answers.specs.Checks.{first, passed, Outcome}
 use Rattle.answers.specs.Slots.{without_slots}
 use Rattle.answers.proofs.RefusalNumbers.{number-positive}
-use Rattle.schema.specs.Rows.{byte_of}
+use Rattle.schema.specs.Bytes.{byte_of}
 use Rattle.schema.specs.Tables.{start_of, rows_of}
 use Rattle.packing.specs.Starts.{table_starts}
 use Rattle.packing.proofs.TableRows.{rows_by_byte}
@@ -24,9 +23,9 @@ use Rattle.larger_bounds.proofs.Exactly.{accepted-exactly}
 use Rattle.larger_bounds.proofs.Packed.{has-enclave}
 
 -- an answer that is acceptance is no refusal's
-accepted-passed : (o : Outcome) (ns : List ℕ) (n : ℕ) → unless o ns ≡ 0 ∷ n ∷ [] → (o ≡ Passed) × (ns ≡ 0 ∷ n ∷ [])
-accepted-passed Passed ns n e = (refl, e)
-accepted-passed (Refused r) ns n e =
+accepted-passed : (o : Outcome) (ns : List ℕ) (n : ℕ) → unless o ns ≡ 0 ∷ n ∷ [] → (o ≡ passed) × (ns ≡ 0 ∷ n ∷ [])
+accepted-passed (Ok u) ns n e = (refl, e)
+accepted-passed (Err r) ns n e =
     let h : get_or (numbers r) 0 0 ≡ 0 = ap (λ xs. get_or xs 0 0) e in
     absurd (omega (arith, number-positive r))
 

@@ -6,7 +6,7 @@ use Rattle.answers.specs.Numbers.{numbers}
 use Rattle.answers.specs.Checks.{first}
 use Rattle.answers.specs.Slots.{SlotRefusal}
 use Rattle.answers.proofs.Looser.{Looser, looser-stays}
-use Rattle.schema.specs.Rows.{byte_of}
+use Rattle.schema.specs.Bytes.{byte_of}
 use Rattle.packing.specs.Starts.{table_starts}
 use Rattle.checks.specs.Image.{Image, image}
 use Rattle.scope_checks.specs.Links.{links}

@@ -9,7 +9,8 @@ use native.Mathlib.Nat.{min-le_left}
 use lib.ListN.{length, get_or, drop, length-take, get_or-eq_default}
 use lib.Seq.{get_or-take, get_or-drop}
 use borrow.Author.Tests.{eq-eqb}
-use Rattle.schema.specs.Rows.{byte_of, enclave_at}
+use Rattle.schema.specs.Bytes.{byte_of}
+use Rattle.schema.specs.Rows.{enclave_at}
 use Rattle.schema.specs.Records.{records_of, is_of}
 use Rattle.federate.specs.Records.{enclave_from, enclave_end, enclave_pack}
 use Rattle.larger_bounds.specs.Packs.{state_bound, action_bound}

@@ -7,7 +7,8 @@ use native.Mathlib.Omega.{arith}
 use lib.ListN.{get_or}
 use Rattle.schema.specs.Number.{number}
 use Rattle.schema.specs.Layout.{Field, W, bytes, Layout, offset_from, offset, field_at}
-use Rattle.schema.specs.Rows.{byte_of, field, row}
+use Rattle.schema.specs.Bytes.{byte_of}
+use Rattle.schema.specs.Rows.{field, row}
 use Rattle.packing.specs.Shape.{end_from, used}
 
 -- fields follow one another, so each ends where the last one ends or before; one past them is taken for a W

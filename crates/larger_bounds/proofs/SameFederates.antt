@@ -10,7 +10,8 @@ use borrow.Author.Tests.{eqb-true}
 use Rattle.identity.specs.declared.IdentityPlace.{IdentityPlace}
 use Rattle.schema.specs.declared.rows.RouteImage.{RouteImage}
 use Rattle.schema.specs.Layout as layout
-use Rattle.schema.specs.Rows.{byte_of, federate_of, route_of, federate_at, route_at}
+use Rattle.schema.specs.Bytes.{byte_of}
+use Rattle.schema.specs.Rows.{federate_of, route_of, federate_at, route_at}
 use Rattle.schema.specs.Records.{records_of, is_of, count_below}
 use Rattle.federate.specs.Records.{enclaves_before, enclaves_of, enclave_before, enclave_from, enclave_end, enclave_pack}
 use Rattle.route_pairs.specs.RoutePairs.{half_at, halves, pair_checks, route_record_checks}

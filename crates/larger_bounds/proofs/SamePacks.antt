@@ -10,7 +10,8 @@ use borrow.Author.Tests.{ltb-true}
 use Rattle.identity.specs.Text.{identity_text}
 use Rattle.schema.specs.Layout as layout
 use Rattle.schema.specs.Layout.{Layout}
-use Rattle.schema.specs.Rows.{byte_of, row, reactor_of, action_of, port_of, reaction_of, mode_of, scope_of, index_of, level_of, startup_of, lifecycle_of, route_of, binding_of, enclave_at, reactor_at, action_at, port_at, reaction_at, mode_at, scope_at, index_at, level_at, startup_at, lifecycle_at, route_at, binding_at}
+use Rattle.schema.specs.Bytes.{byte_of}
+use Rattle.schema.specs.Rows.{row, reactor_of, action_of, port_of, reaction_of, mode_of, scope_of, index_of, level_of, startup_of, lifecycle_of, route_of, binding_of, enclave_at, reactor_at, action_at, port_at, reaction_at, mode_at, scope_at, index_at, level_at, startup_at, lifecycle_at, route_at, binding_at}
 use Rattle.packing.specs.Shape.{used}
 use Rattle.schema.specs.Records.{records_of}
 use Rattle.schema.specs.Tables.{start_of, rows_of}

@@ -10,6 +10,11 @@ use Rattle.answers.specs.declared.Refusal.{Refusal}
 use Rattle.answers.specs.Checks.{Check, need, run}
 use Rattle.answers.specs.Slots.{is_slot, slots_hold}
 use Rattle.answers.proofs.Slots.{slots-append}
+use Rattle.std.specs.Prelude.{Option, Some, None}
+use Rattle.schema.specs.declared.index.ModeIndex.{ModeIndex}
+use Rattle.schema.specs.declared.index.ScopeIndex.{ScopeIndex}
+use Rattle.schema.specs.declared.index.BindingSlotIndex.{BindingSlotIndex}
+use Rattle.schema.specs.declared.index.BankInfoImage.{BankInfoImage}
 use Rattle.schema.specs.declared.rows.ModeImage.{ModeImage}
 use Rattle.schema.specs.declared.rows.RequiredBindingImage.{RequiredBindingImage}
 use Rattle.range.specs.declared.IndexSpan.{IndexSpan}
@@ -46,39 +51,39 @@ plain-cond true h = none
 plain-cond false h = h
 
 -- the checks of optional fields
-initial-mode : (rows : ℕ → ℕ) (i : ℕ) (span : IndexSpan) (mode : MaybeMode) → Plain (initial_mode_checks rows i span mode)
+initial-mode : (rows : ℕ → ℕ) (i : ℕ) (span : IndexSpan) (mode : Option ModeIndex) → Plain (initial_mode_checks rows i span mode)
 unfolding initial_mode_checks is_slot numbers
-initial-mode rows i span NoMode = none
-initial-mode rows i span (Mode m) = more refl (more refl none)
+initial-mode rows i span None = none
+initial-mode rows i span (Some m) = more refl (more refl none)
 
-bank : (i : ℕ) (b : MaybeBank) → Plain (bank_checks i b)
+bank : (i : ℕ) (b : Option BankInfoImage) → Plain (bank_checks i b)
 unfolding bank_checks is_slot numbers
-bank i NoBank = none
-bank i (Bank b) = more refl none
+bank i None = none
+bank i (Some b) = more refl none
 
 action-binding :
-    (rows : ℕ → ℕ) (bindings : ℕ → RequiredBindingImage) (i : ℕ) (standard : Bool) (b : MaybeBinding)
+    (rows : ℕ → ℕ) (bindings : ℕ → RequiredBindingImage) (i : ℕ) (standard : Bool) (b : Option BindingSlotIndex)
     → Plain (action_binding_checks rows bindings i standard b)
 unfolding action_binding_checks binding_checks is_slot numbers
-action-binding rows bindings i true (Binding b) = more refl (more refl none)
-action-binding rows bindings i true NoBinding = more refl none
-action-binding rows bindings i false (Binding b) = more refl none
-action-binding rows bindings i false NoBinding = none
+action-binding rows bindings i true (Some b) = more refl (more refl none)
+action-binding rows bindings i true None = more refl none
+action-binding rows bindings i false (Some b) = more refl none
+action-binding rows bindings i false None = none
 
-effect : (rows : ℕ → ℕ) (modes : ℕ → ModeImage) (i reactor : ℕ) (mode : MaybeMode) → Plain (effect_checks rows modes i reactor mode)
+effect : (rows : ℕ → ℕ) (modes : ℕ → ModeImage) (i reactor : ℕ) (mode : Option ModeIndex) → Plain (effect_checks rows modes i reactor mode)
 unfolding effect_checks is_slot numbers
-effect rows modes i reactor NoMode = none
-effect rows modes i reactor (Mode m) = more refl (more refl none)
+effect rows modes i reactor None = none
+effect rows modes i reactor (Some m) = more refl (more refl none)
 
-parent : (rows : ℕ → ℕ) (i : ℕ) (s : MaybeScope) → Plain (parent_checks rows i s)
+parent : (rows : ℕ → ℕ) (i : ℕ) (s : Option ScopeIndex) → Plain (parent_checks rows i s)
 unfolding parent_checks is_slot numbers
-parent rows i NoScope = none
-parent rows i (Scope s) = more refl none
+parent rows i None = none
+parent rows i (Some s) = more refl none
 
-scope-mode : (rows : ℕ → ℕ) (modes : ℕ → ModeImage) (i reactor : ℕ) (mode : MaybeMode) → Plain (scope_mode_checks rows modes i reactor mode)
+scope-mode : (rows : ℕ → ℕ) (modes : ℕ → ModeImage) (i reactor : ℕ) (mode : Option ModeIndex) → Plain (scope_mode_checks rows modes i reactor mode)
 unfolding scope_mode_checks is_slot numbers
-scope-mode rows modes i reactor NoMode = none
-scope-mode rows modes i reactor (Mode m) = more refl (more refl none)
+scope-mode rows modes i reactor None = none
+scope-mode rows modes i reactor (Some m) = more refl (more refl none)
 
 ruleset plain-laws = (none, more, plain-append, plain-run, plain-cond)
 

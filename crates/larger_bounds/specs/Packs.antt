@@ -2,7 +2,8 @@
 use Rattle.std.specs.Prelude.{ℕ, ◌/◌, ◌<◌, ◌≤◌, ◌≡◌, ◌↔◌, List, [], ◌∷◌, length, get_or}
 use Rattle.answers.specs.Checks.{first, passed}
 use Rattle.answers.specs.Slots.{without_slots}
-use Rattle.schema.specs.Rows.{byte_of, enclave_at, reactor_at, action_at}
+use Rattle.schema.specs.Bytes.{byte_of}
+use Rattle.schema.specs.Rows.{enclave_at, reactor_at, action_at}
 use Rattle.packing.specs.declared.PackKind.TheVariants.{Enclave}
 use Rattle.packing.specs.Packing.{packing_checks}
 use Rattle.scope_checks.specs.Links.{links}

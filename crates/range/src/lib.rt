@@ -5,14 +5,14 @@ ghost use Rattle.std.specs.Prelude.{◌≡◌};
 ghost use Rattle.range.specs.Range.{checked_end, saturating_end, contains};
 
 // Consecutive entries of a list table.
-#[derive(Clone, Copy, Debug, PartialEq, Eq)]
+#[derive(Clone, Copy, Debug, Default, PartialEq, Eq)]
 pub struct SliceRange {
     pub start: u32,
     pub len: u32,
 }
 
 // Consecutive keys of a dense table.
-#[derive(Clone, Copy, Debug, PartialEq, Eq)]
+#[derive(Clone, Copy, Debug, Default, PartialEq, Eq)]
 pub struct IndexSpan {
     pub start: u64,
     pub len: u64,
@@ -20,10 +20,10 @@ pub struct IndexSpan {
 
 // A span of modes, and one of enclaves: neither stands where the other belongs.
 // Each is one type for one kind of key: a type parameter that names the kind would be no plainer.
-#[derive(Clone, Copy, Debug, PartialEq, Eq)]
+#[derive(Clone, Copy, Debug, Default, PartialEq, Eq)]
 pub struct ModeSpan(pub IndexSpan);
 
-#[derive(Clone, Copy, Debug, PartialEq, Eq)]
+#[derive(Clone, Copy, Debug, Default, PartialEq, Eq)]
 pub struct EnclaveSpan(pub IndexSpan);
 
 // A range as a span: its start and its length, in 64 bits.

@@ -4,7 +4,7 @@
 ghost use Rattle.std.specs.Prelude.{◌≡◌};
 ghost use Rattle.answers.specs.Checks.{first, run};
 ghost use Rattle.checks.specs.Image.{image_of, reaction_part, effect_target};
-ghost use Rattle.row_checks.specs.Reactions.{effect_checks, reaction_owner_checks, reaction_ends_of, no_reaction_ends, reaction_range_checks, reaction_row, reaction_checks};
+ghost use Rattle.row_checks.specs.Reactions.{effect_checks, reaction_owner_checks, reaction_ends_of, reaction_range_checks, reaction_row, reaction_checks};
 
 use crate::bindings::check_binding;
 use answers::{Field, Refusal, RowField};
@@ -15,25 +15,13 @@ use schema::lent::Enclave;
 use schema::row::Row;
 use schema::rows::ReactionImage;
 
-// The ends of a reaction's four ranges.
-#[derive(Clone, Copy)]
+// The ends of a reaction's four ranges; before the first row each is 0.
+#[derive(Clone, Copy, Default)]
 pub struct ReactionEnds {
     pub uses: u64,
     pub effects: u64,
     pub actions: u64,
     pub enabled: u64,
-}
-
-// The ends before the first row.
-pub fn no_ends() -> ReactionEnds
-    ensures { result ≡ no_reaction_ends }
-{
-    ReactionEnds {
-        uses: 0,
-        effects: 0,
-        actions: 0,
-        enabled: 0,
-    }
 }
 
 // Where the ranges of a row end.
@@ -134,7 +122,7 @@ fn check_reaction_row(
 pub fn check_reactions(e: &Enclave) -> Result<(), Refusal>
     ensures { let m = image_of e.now in result ≡ first (run (reaction_checks m) 0 (m.rows 5)) }
 {
-    let mut previous = no_ends();
+    let mut previous = ReactionEnds::default();
     for i in 0..e.rows(ReactionImage::TABLE) {
         let row = e.row(ReactionIndex(i));
         check_reaction_row(e, ReactionIndex(i), row, previous)?;

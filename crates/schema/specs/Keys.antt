@@ -1,5 +1,5 @@
 -- The tables of the keys are among those of a pack. Assumes nothing.
-use Rattle.std.proofs.Common.{ℕ, ◌<◌, arith}
+use Rattle.std.proofs.Common.{◌<◌, arith}
 use Rattle.schema.specs.Tables.{tables}
 
 pub known_2 : 2 < tables

@@ -1,5 +1,5 @@
 -- A record past the pack holds what one of zeros holds, by each reader. Assumes nothing.
-use Prim.Native.Nat.{ℕ, zero, suc, ◌+◌, ◌*◌, ◌/◌, ◌%◌, ◌≤◌, ◌<◌}
+use Prim.Native.Nat.{ℕ, zero, suc, ◌+◌, ◌*◌, ◌≤◌}
 use mathlib.Core.Path.{◌≡◌, refl, sym}
 use mathlib.Core.List.{List}
 use native.Mathlib.Omega.{arith}
@@ -7,7 +7,6 @@ use lib.ListN.{length, get_or, get_or-eq_default}
 use Rattle.schema.specs.Number.{number}
 use Rattle.schema.specs.Layout.{Layout, bytes, offset, field_at}
 use Rattle.schema.specs.Layout as layout
-use Rattle.schema.specs.Tables.{tables}
 use Rattle.schema.specs.RowLaws.{PastIs}
 use Rattle.schema.specs.Rows.{row, empty, federate_of, federate_at, enclave_of, enclave_at, reactor_of, reactor_at, action_of, action_at, port_of, port_at, reaction_of, reaction_at, mode_of, mode_at, scope_of, scope_at, route_of, route_at, binding_of, binding_at, level_of, level_at, startup_of, startup_at, lifecycle_of, lifecycle_at, index_of, index_at}
 

@@ -1,5 +1,5 @@
 -- The rows of the tables: record n of a pack is its 64 bytes from 64 n, read by the layout of its table. Assumes nothing.
-use Rattle.std.specs.Prelude.{ℕ, ◌+◌, ◌*◌, ◌/◌, ◌%◌, ◌^◌, ◌≡◌, Bool, cond, List, get_or, length, eqb}
+use Rattle.std.specs.Prelude.{ℕ, ◌+◌, ◌*◌, Bool, cond, List, eqb}
 use Rattle.std.specs.Bool.{then_some}
 use Rattle.identity.specs.declared.IdentityPlace.{IdentityPlace}
 use Rattle.range.specs.declared.SliceRange.{SliceRange}

@@ -10,21 +10,21 @@ use crate::record::Record;
 use crate::row::{Row, Stored};
 
 // A reaction with its level: by level, then by reaction.
-#[derive(Clone, Copy, PartialEq, Eq, PartialOrd, Ord)]
+#[derive(Clone, Copy, Default, PartialEq, Eq, PartialOrd, Ord)]
 pub struct LevelReactionImage {
     pub level: u32,
     pub reaction: ReactionIndex,
 }
 
 // An action with the delay of its first event.
-#[derive(Clone, Copy)]
+#[derive(Clone, Copy, Default)]
 pub struct TimerStartupImage {
     pub action: ActionIndex,
     pub logical_delay_nanos: u64,
 }
 
 // A reaction with the action that triggers it at startup or shutdown.
-#[derive(Clone, Copy)]
+#[derive(Clone, Copy, Default)]
 pub struct LifecycleReactionImage {
     pub reaction: LevelReactionImage,
     pub action: ActionIndex,
@@ -38,10 +38,7 @@ impl Stored for LevelReactionImage {
     ghost past = { level_past };
 
     fn empty() -> Self {
-        LevelReactionImage {
-            level: 0,
-            reaction: ReactionIndex(0),
-        }
+        Self::default()
     }
 
     fn of(from: Record) -> Self {
@@ -60,10 +57,7 @@ impl Stored for TimerStartupImage {
     ghost past = { startup_past };
 
     fn empty() -> Self {
-        TimerStartupImage {
-            action: ActionIndex(0),
-            logical_delay_nanos: 0,
-        }
+        Self::default()
     }
 
     fn of(from: Record) -> Self {
@@ -82,10 +76,7 @@ impl Stored for LifecycleReactionImage {
     ghost past = { lifecycle_past };
 
     fn empty() -> Self {
-        LifecycleReactionImage {
-            reaction: LevelReactionImage::empty(),
-            action: ActionIndex(0),
-        }
+        Self::default()
     }
 
     fn of(from: Record) -> Self {

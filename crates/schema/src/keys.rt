@@ -108,7 +108,7 @@ impl Stored for ActionIndex {
     ghost past = { λ p n h w e. record { 0 = index_past p n h w e } };
 
     fn empty() -> Self {
-        ActionIndex(0)
+        Self::default()
     }
 
     fn of(from: Record) -> Self {
@@ -128,7 +128,7 @@ impl Stored for PortIndex {
     ghost past = { λ p n h w e. record { 0 = index_past p n h w e } };
 
     fn empty() -> Self {
-        PortIndex(0)
+        Self::default()
     }
 
     fn of(from: Record) -> Self {
@@ -148,7 +148,7 @@ impl Stored for ModeIndex {
     ghost past = { λ p n h w e. record { 0 = index_past p n h w e } };
 
     fn empty() -> Self {
-        ModeIndex(0)
+        Self::default()
     }
 
     fn of(from: Record) -> Self {
@@ -168,7 +168,7 @@ impl Stored for ScopeIndex {
     ghost past = { λ p n h w e. record { 0 = index_past p n h w e } };
 
     fn empty() -> Self {
-        ScopeIndex(0)
+        Self::default()
     }
 
     fn of(from: Record) -> Self {

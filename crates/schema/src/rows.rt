@@ -14,7 +14,7 @@ use crate::row::{Row, Stored};
 use identity::IdentityPlace;
 use range::{EnclaveSpan, IndexSpan, ModeSpan, SliceRange};
 
-#[derive(Clone, Copy)]
+#[derive(Clone, Copy, Default)]
 pub struct FederateImage {
     pub id: IdentityPlace,
     pub target: IdentityPlace,
@@ -23,7 +23,7 @@ pub struct FederateImage {
 }
 
 // The six storage numbers of an enclave.
-#[derive(Clone, Copy)]
+#[derive(Clone, Copy, Default)]
 pub struct StorageBounds {
     pub state_slots: u32,
     pub action_slots: u32,
@@ -33,13 +33,13 @@ pub struct StorageBounds {
     pub scratch_bytes: u64,
 }
 
-#[derive(Clone, Copy)]
+#[derive(Clone, Copy, Default)]
 pub struct EnclaveImage {
     pub enclave_id: IdentityPlace,
     pub storage_bounds: StorageBounds,
 }
 
-#[derive(Clone, Copy)]
+#[derive(Clone, Copy, Default)]
 pub struct ReactorImage {
     pub state_binding: BindingSlotIndex,
     pub state_slot: u32,
@@ -58,14 +58,14 @@ pub struct ActionImage {
     pub triggers: SliceRange,
 }
 
-#[derive(Clone, Copy)]
+#[derive(Clone, Copy, Default)]
 pub struct PortImage {
     pub binding: BindingSlotIndex,
     pub scope: ScopeIndex,
     pub triggers: SliceRange,
 }
 
-#[derive(Clone, Copy)]
+#[derive(Clone, Copy, Default)]
 pub struct ReactionImage {
     pub external_effect: bool,
     pub reactor: ReactorIndex,
@@ -79,13 +79,13 @@ pub struct ReactionImage {
     pub mode_effect: Option<ModeEffect>,
 }
 
-#[derive(Clone, Copy)]
+#[derive(Clone, Copy, Default)]
 pub struct ModeImage {
     pub reactor: ReactorIndex,
     pub scope: ScopeIndex,
 }
 
-#[derive(Clone, Copy)]
+#[derive(Clone, Copy, Default)]
 pub struct ScopeImage {
     pub parent: Option<ScopeIndex>,
     pub reactor: ReactorIndex,
@@ -98,7 +98,7 @@ pub struct ScopeImage {
     pub shutdown_reactions: SliceRange,
 }
 
-#[derive(Clone, Copy)]
+#[derive(Clone, Copy, Default)]
 pub struct RouteImage {
     pub boundary: IdentityPlace,
     pub local_port: PortIndex,
@@ -107,33 +107,10 @@ pub struct RouteImage {
     pub delay_nanos: u64,
 }
 
-#[derive(Clone, Copy)]
+#[derive(Clone, Copy, Default)]
 pub struct RequiredBindingImage {
     pub id: IdentityPlace,
     pub kind: BindingKind,
-}
-
-// The empty part at the start of the batch text.
-fn no_text() -> IdentityPlace
-    ensures { result ≡ record { house = false; start = 0; len = 0 } }
-{
-    IdentityPlace {
-        house: false,
-        start: 0,
-        len: 0,
-    }
-}
-
-fn no_span() -> IndexSpan
-    ensures { result ≡ record { start = 0; len = 0 } }
-{
-    IndexSpan { start: 0, len: 0 }
-}
-
-fn no_range() -> SliceRange
-    ensures { result ≡ record { start = 0; len = 0 } }
-{
-    SliceRange { start: 0, len: 0 }
 }
 
 impl Stored for FederateImage {
@@ -144,12 +121,7 @@ impl Stored for FederateImage {
     ghost past = { federate_past };
 
     fn empty() -> Self {
-        FederateImage {
-            id: no_text(),
-            target: no_text(),
-            runtime: no_text(),
-            enclaves: EnclaveSpan(no_span()),
-        }
+        Self::default()
     }
 
     fn of(from: Record) -> Self {
@@ -176,17 +148,7 @@ impl Stored for EnclaveImage {
     ghost past = { enclave_past };
 
     fn empty() -> Self {
-        EnclaveImage {
-            enclave_id: no_text(),
-            storage_bounds: StorageBounds {
-                state_slots: 0,
-                action_slots: 0,
-                event_capacity: 0,
-                payload_bytes: 0,
-                state_bytes: 0,
-                scratch_bytes: 0,
-            },
-        }
+        Self::default()
     }
 
     fn of(from: Record) -> Self {
@@ -218,14 +180,7 @@ impl Stored for ReactorImage {
     ghost past = { reactor_past };
 
     fn empty() -> Self {
-        ReactorImage {
-            state_binding: BindingSlotIndex(0),
-            state_slot: 0,
-            root_scope: ScopeIndex(0),
-            modes: ModeSpan(no_span()),
-            initial_mode: None,
-            bank: None,
-        }
+        Self::default()
     }
 
     fn of(from: Record) -> Self {
@@ -265,7 +220,7 @@ impl Stored for ActionImage {
                 domain: TimingDomain::Logical,
                 min_delay_nanos: 0,
             },
-            triggers: no_range(),
+            triggers: SliceRange::default(),
         }
     }
 
@@ -294,11 +249,7 @@ impl Stored for PortImage {
     ghost past = { port_past };
 
     fn empty() -> Self {
-        PortImage {
-            binding: BindingSlotIndex(0),
-            scope: ScopeIndex(0),
-            triggers: no_range(),
-        }
+        Self::default()
     }
 
     fn of(from: Record) -> Self {
@@ -324,18 +275,7 @@ impl Stored for ReactionImage {
     ghost past = { reaction_past };
 
     fn empty() -> Self {
-        ReactionImage {
-            external_effect: false,
-            reactor: ReactorIndex(0),
-            scope: ScopeIndex(0),
-            dependency_level: 0,
-            binding: BindingSlotIndex(0),
-            use_ports: no_range(),
-            effect_ports: no_range(),
-            actions: no_range(),
-            enabled_modes: no_range(),
-            mode_effect: None,
-        }
+        Self::default()
     }
 
     fn of(from: Record) -> Self {
@@ -371,10 +311,7 @@ impl Stored for ModeImage {
     ghost past = { mode_past };
 
     fn empty() -> Self {
-        ModeImage {
-            reactor: ReactorIndex(0),
-            scope: ScopeIndex(0),
-        }
+        Self::default()
     }
 
     fn of(from: Record) -> Self {
@@ -399,17 +336,7 @@ impl Stored for ScopeImage {
     ghost past = { scope_past };
 
     fn empty() -> Self {
-        ScopeImage {
-            parent: None,
-            reactor: ReactorIndex(0),
-            mode: None,
-            descendants: no_range(),
-            logical_actions: no_range(),
-            timer_startups: no_range(),
-            reset_reactions: no_range(),
-            startup_reactions: no_range(),
-            shutdown_reactions: no_range(),
-        }
+        Self::default()
     }
 
     fn of(from: Record) -> Self {
@@ -441,13 +368,7 @@ impl Stored for RouteImage {
     ghost past = { route_past };
 
     fn empty() -> Self {
-        RouteImage {
-            boundary: no_text(),
-            local_port: PortIndex(0),
-            direction: RouteDirection::Inbound,
-            timing_domain: TimingDomain::Logical,
-            delay_nanos: 0,
-        }
+        Self::default()
     }
 
     fn of(from: Record) -> Self {
@@ -476,10 +397,7 @@ impl Stored for RequiredBindingImage {
     ghost past = { binding_past };
 
     fn empty() -> Self {
-        RequiredBindingImage {
-            id: no_text(),
-            kind: BindingKind::StateInitializer,
-        }
+        Self::default()
     }
 
     fn of(from: Record) -> Self {

@@ -5,7 +5,7 @@ ghost use Rattle.std.specs.Prelude.{◌≡◌};
 ghost use Rattle.answers.specs.Checks.{first, answer_of};
 ghost use Rattle.schema.specs.Tables.{rows_of};
 ghost use Rattle.checks.specs.Image.{image_of};
-ghost use Rattle.scope_checks.specs.Ends.{ends_of, ends_after, no_ends, member_range_checks, reaction_range_checks, scope_range_checks};
+ghost use Rattle.scope_checks.specs.Ends.{ends_of, ends_after, member_range_checks, reaction_range_checks, scope_range_checks};
 ghost use Rattle.scope_checks.specs.Scopes.{scope_row_checks};
 
 use crate::owners::check_scope_owner;
@@ -19,8 +19,8 @@ use schema::index::ScopeIndex;
 use schema::lent::{Enclave, TableStarts};
 use schema::rows::ScopeImage;
 
-// One running end for each range of a row.
-#[derive(Clone, Copy)]
+// One running end for each range of a row; before the first row each is 0.
+#[derive(Clone, Copy, Default)]
 pub struct ScopeEnds {
     pub descendants: u64,
     pub logical_actions: u64,
@@ -28,20 +28,6 @@ pub struct ScopeEnds {
     pub reset_reactions: u64,
     pub startup_reactions: u64,
     pub shutdown_reactions: u64,
-}
-
-// The ends before the first row.
-pub fn no_ends() -> ScopeEnds
-    ensures { result ≡ no_ends }
-{
-    ScopeEnds {
-        descendants: 0,
-        logical_actions: 0,
-        timer_startups: 0,
-        reset_reactions: 0,
-        startup_reactions: 0,
-        shutdown_reactions: 0,
-    }
 }
 
 // Where the ranges of a row end.

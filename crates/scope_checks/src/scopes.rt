@@ -6,7 +6,7 @@ ghost use Rattle.answers.specs.Checks.{first, run};
 ghost use Rattle.checks.specs.Image.{image_of};
 ghost use Rattle.scope_checks.specs.Scopes.{scope_checks};
 
-use crate::ends::{check_scope_row, no_ends};
+use crate::ends::{ScopeEnds, check_scope_row};
 use answers::Refusal;
 use schema::index::ScopeIndex;
 use schema::lent::Enclave;
@@ -16,7 +16,7 @@ use schema::rows::ScopeImage;
 pub fn check_scopes(e: &Enclave) -> Result<(), Refusal>
     ensures { let m = image_of e.now in result ≡ first (run (scope_checks m) 0 (m.rows 7)) }
 {
-    let mut ends = no_ends();
+    let mut ends = ScopeEnds::default();
     for i in 0..e.rows(ScopeImage::TABLE) {
         let row = e.row(ScopeIndex(i));
         check_scope_row(e, ScopeIndex(i), row, &mut ends)?;

@@ -5,8 +5,7 @@ use Rattle.answers.specs.Checks.{first, passed}
 use Rattle.packing.specs.declared.PackKind.TheVariants.{Enclave}
 use Rattle.packing.specs.Packing.{packing_checks}
 use Rattle.packing.specs.Starts.{table_starts}
-use Rattle.checks.specs.Image.{image_of}
-use Rattle.enclave.specs.Answer.{answer_numbers, image_result, pack_image}
+use Rattle.enclave.specs.Answer.{answer_numbers, image_result}
 use Rattle.enclave.proofs.Whole.{packing_refused, packed_answer, image_is}
 use Rattle.enclave.proofs.check.check_enclave.Goals as goal
 

@@ -1,5 +1,5 @@
 -- Each place where the passes can stop, by its law.
-use Rattle.std.proofs.Common.{◌≡◌, ◌∙◌, sym, rules, arith}
+use Rattle.std.proofs.Common.{◌≡◌, sym, rules, arith}
 use Rattle.std.specs.Prelude.{Ok, Err}
 use Rattle.answers.specs.Checks.{first, passed, answer_of}
 use Rattle.checks.specs.Image.{image_of}
