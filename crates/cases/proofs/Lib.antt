@@ -1,1 +1,1 @@
-pub mod FieldBytes
+pub mod Padded

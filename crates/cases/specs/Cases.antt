@@ -17,7 +17,7 @@ use Rattle.packing.specs.Clean.{zeros, clean}
 use Rattle.packing.specs.Packing.{identity_checks, record_checks, packing_checks}
 use Rattle.packing.specs.Starts.{first_reaching, starts_below, table_starts}
 use Rattle.checks.specs.Refs.{span_checks}
-use Rattle.checks.specs.Lists.{level_checks, lifecycle_checks, levels_checks, lifecycles_checks}
+use Rattle.checks.specs.Lists.{listed_checks, range_of_checks}
 use Rattle.row_checks.specs.Bindings.{binding_checks}
 use Rattle.row_checks.specs.Reactors.{slot_checks, root_scope_checks, initial_mode_checks, bank_checks, reactor_row, reactor_checks}
 use Rattle.row_checks.specs.Actions.{action_binding_checks, action_row, action_checks}
@@ -28,7 +28,7 @@ use Rattle.row_checks.specs.Modes.{mode_owner_checks, mode_row, mode_checks}
 use Rattle.scope_checks.specs.Ends.{ends_before, member_range_checks, reaction_range_checks}
 use Rattle.scope_checks.specs.Scopes.{parent_checks, scope_mode_checks, scope_owner_checks, scope_row_checks, scope_checks}
 use Rattle.scope_checks.specs.Links.{followed, links_below, cycle_checks}
-use Rattle.list_checks.specs.ListTables.{index_checks, startup_checks, action_trigger_checks, port_trigger_checks, enabled_mode_checks, enabled_modes_checks, scope_list_checks, level_entry_checks, lifecycle_entry_checks, index_order_checks, shutdown_action_checks}
+use Rattle.list_checks.specs.ListTables.{named_checks, trigger_checks, listed_entry_checks, index_checks, startup_checks, action_trigger_checks, port_trigger_checks, enabled_mode_checks, enabled_modes_checks, scope_list_checks, level_entry_checks, lifecycle_entry_checks, index_order_checks, shutdown_action_checks}
 use Rattle.list_checks.specs.Routes.{route_order_checks, route_row, route_checks, binding_id_row, binding_id_checks}
 use Rattle.enclave.specs.Passes.{length_checks, head_passes, table_passes, row_passes, scope_passes, reaction_list_passes, scope_list_passes, entry_passes, enclave_list_passes, list_passes, passes, pass_checks, checks_of, enclave_checks}
 use Rattle.enclave.specs.Answer.{image_answer, enclave_answer}
@@ -37,7 +37,7 @@ use Rattle.federate.specs.Enclaves as enclaves
 use Rattle.route_pairs.specs.RoutePairs.{route_record_checks}
 use Rattle.federate.specs.Federate.{metadata_checks, federate_checks}
 use Rattle.federate.specs.Answer.{packed_answer, federate_answer}
-use Rattle.cases.specs.Packs.{bytes, rec, federate, enclave, reactor, bank_reactor, action, bound_action, port, reaction, mode, scope, scope_under, mode_scope, trigger, binding, ab, enclave_s, reactor_s, scope_s, binding_s}
+use Rattle.cases.specs.Packs.{bytes, padded, federate, enclave, reactor, bank_reactor, action, bound_action, port, reaction, mode, scope, scope_under, mode_scope, trigger, binding, ab, enclave_s, reactor_s, scope_s, binding_s}
 
 -- a pack of a kind, its two texts and the answer: 0 and the links, 0 and the enclaves and the links, or the refusal's number and values
 pub record Case : Type 0 where
@@ -135,15 +135,15 @@ every [] = true
 every (c ∷ cs) = same_list (pack_answer c.kind c.pack c.batch c.house) c.answer && every cs
 
 pub cases-hold : T (every cases)
-unfolding every same_list cases bytes rec enclave_answer image_answer first run numbers packing_checks record_checks identity_checks clean zeros
+unfolding every same_list cases bytes padded enclave_answer image_answer first run numbers packing_checks record_checks identity_checks clean zeros
     layouts number first_reaching starts_below table_starts allowed scalar_at decode_after valid_scalars control white_space compared checked_end
     saturating_end contains enclave_at reactor_at action_at port_at reaction_at mode_at scope_at index_at level_at startup_at lifecycle_at route_at
     binding_at enclave_checks checks_of pass_checks passes length_checks head_passes table_passes row_passes scope_passes reaction_list_passes scope_list_passes
-    entry_passes enclave_list_passes list_passes span_checks level_checks lifecycle_checks levels_checks lifecycles_checks binding_checks slot_checks
+    entry_passes enclave_list_passes list_passes span_checks listed_checks range_of_checks binding_checks slot_checks
     root_scope_checks initial_mode_checks bank_checks reactor_row reactor_checks action_binding_checks action_row action_checks port_row port_checks
     effect_checks reaction_owner_checks reaction_ends_before reactions.reaction_range_checks reaction_row reaction_checks mode_owner_checks mode_row
     mode_checks parent_checks scope_mode_checks scope_owner_checks ends_before member_range_checks reaction_range_checks scope_row_checks scope_checks
-    followed links_below cycle_checks index_checks startup_checks action_trigger_checks port_trigger_checks enabled_mode_checks enabled_modes_checks
+    followed links_below cycle_checks named_checks trigger_checks listed_entry_checks index_checks startup_checks action_trigger_checks port_trigger_checks enabled_mode_checks enabled_modes_checks
     scope_list_checks level_entry_checks lifecycle_entry_checks index_order_checks shutdown_action_checks route_order_checks route_row route_checks
     binding_id_row binding_id_checks federate_at federate_answer packed_answer metadata_checks federate_checks count_below enclave_before enclave_from
     enclaves.record_checks enclaves.links_before route_record_checks

@@ -12,9 +12,13 @@ W n = bytes 4 n
 abbrev pub D : ℕ → List ℕ
 D n = bytes 8 n
 
--- a record: table, byte 1, byte 2, and from byte 4 the fields; zeros to 64 bytes
-unfoldable pub rec : ℕ → ℕ → ℕ → List ℕ → List ℕ
-rec table bits kind fields = take 64 (table ∷ bits ∷ kind ∷ 0 ∷ (fields ++ replicate 60 0))
+-- the first bytes of a record, and zeros to 64 bytes
+unfoldable pub padded : List ℕ → List ℕ
+padded written = take 64 (written ++ replicate 60 0)
+
+-- a record: table, byte 1, byte 2, and from byte 4 the fields
+abbrev pub rec : ℕ → ℕ → ℕ → List ℕ → List ℕ
+rec table bits kind fields = padded (table ∷ bits ∷ kind ∷ 0 ∷ fields)
 
 -- the records of each table. Fields that are left out, at a record's end, are zero
 

@@ -1,5 +1,5 @@
 // Document 01's lines: specs/Cases.antt has the proved ones, and here are the records of rows, of which packs are made.
 #![tactic(auto)]
 
-pub mod fields;
+mod builder;
 pub mod records;

@@ -1,266 +1,221 @@
-// The record of a row: the table number, the bits and kinds, the fields, and zeros after them.
-#![tactic(auto, unfolding(crate::specs::Records::federate_record, crate::specs::Records::enclave_record, crate::specs::Records::reactor_record, crate::specs::Records::action_record, crate::specs::Records::port_record, crate::specs::Records::reaction_record, crate::specs::Records::mode_record, crate::specs::Records::scope_record, crate::specs::Records::trigger_record, crate::specs::Records::route_record, crate::specs::Records::binding_record))]
+// The record of a row: the table number, the bits and the kind, the fields, and zeros after them; and packs of records.
+ghost use Rattle.std.specs.Prelude.{◌≡◌, ◌+◌, ◌*◌, ◌≤◌, ◌↔◌, ◌++◌, ℕ, List, length, flat_map, IsOk, OnOk, OnErr};
+ghost use Rattle.arrayvec.specs.ArrayVec.{array_vec_len};
+ghost use Rattle.cases.specs.Fields.{timing_kind, has_period, timing_nanos};
+ghost use Rattle.cases.specs.Records.{federate_record, enclave_record, reactor_record, action_record, port_record, reaction_record, mode_record, scope_record, trigger_record, route_record, binding_record};
 
-ghost use Rattle.std.specs.Prelude.{◌≡◌, [], ◌+◌, ◌*◌, ◌≤◌, ◌++◌, length, take, drop, sum_by};
-ghost use Rattle.cases.specs.Records.{width, field_bytes, record_of, federate_record, enclave_record, reactor_record, action_record, port_record, reaction_record, mode_record, scope_record, trigger_record, route_record, binding_record};
-
-use crate::fields;
-use schema::lists::ReactionTrigger;
+use crate::builder::{RecordBuilder, bits, three_bits};
+use arrayvec::{ArrayVec, CapacityError};
+use schema::entries::ReactionTrigger;
+use schema::index::{ActionTiming, BankInfoImage, RouteDirection, TimingDomain};
+use schema::row::Row;
 use schema::rows::{
     ActionImage, EnclaveImage, FederateImage, ModeImage, PortImage, ReactionImage, ReactorImage,
     RequiredBindingImage, RouteImage, ScopeImage,
 };
 
-pub type Record = [u8; 64];
+// A record of a pack.
+pub type RecordBytes = [u8; 64];
 
-// A field's number: a W of 4 bytes, a D of 8.
-#[derive(Clone, Copy)]
-enum Field {
-    W(u32),
-    D(u64),
+// A row that is written as a record.
+pub trait Recorded: Row {
+    ghost bytes: { Self → List ℕ };
+
+    fn record(self) -> RecordBytes
+        ensures { result ≡ bytes self };
 }
 
-use Field::{D, W};
+impl Recorded for FederateImage {
+    ghost bytes = { federate_record };
 
-impl Field {
-    fn width(self) -> usize
-        ensures { result ≡ width self }
-    {
-        match self {
-            W(_) => 4,
-            D(_) => 8,
+    fn record(self) -> RecordBytes {
+        let (id, target, runtime) = (self.id, self.target, self.runtime);
+        let bits = three_bits(id.house, target.house, runtime.house);
+        RecordBuilder::new(Self::TABLE, bits, 0)
+            .place(id)
+            .place(target)
+            .place(runtime)
+            .span(self.enclaves.0)
+            .build()
+    }
+}
+
+impl Recorded for EnclaveImage {
+    ghost bytes = { enclave_record };
+
+    fn record(self) -> RecordBytes {
+        let (id, bounds) = (self.enclave_id, self.storage_bounds);
+        RecordBuilder::new(Self::TABLE, bits(id.house, false), 0)
+            .place(id)
+            .word(bounds.state_slots)
+            .word(bounds.action_slots)
+            .word(bounds.event_capacity)
+            .long(bounds.payload_bytes)
+            .long(bounds.state_bytes)
+            .long(bounds.scratch_bytes)
+            .build()
+    }
+}
+
+impl Recorded for ReactorImage {
+    ghost bytes = { reactor_record };
+
+    fn record(self) -> RecordBytes {
+        let bits = bits(self.initial_mode.is_some(), self.bank.is_some());
+        let bank = self.bank.unwrap_or(BankInfoImage { index: 0, total: 0 });
+        RecordBuilder::new(Self::TABLE, bits, 0)
+            .word(self.state_binding.0)
+            .word(self.state_slot)
+            .word(self.root_scope.0)
+            .span(self.modes.0)
+            .word(self.initial_mode.map_or(0, |mode| mode.0))
+            .word(bank.index)
+            .word(bank.total)
+            .build()
+    }
+}
+
+impl Recorded for ActionImage {
+    ghost bytes = { action_record };
+
+    fn record(self) -> RecordBytes {
+        let (kind, has_period, nanos) = timing_fields(self.timing);
+        RecordBuilder::new(Self::TABLE, bits(self.binding.is_some(), has_period), kind)
+            .word(self.scope.0)
+            .word(self.storage_slot)
+            .word(self.binding.map_or(0, |binding| binding.0))
+            .long(nanos)
+            .range(self.triggers)
+            .build()
+    }
+}
+
+impl Recorded for PortImage {
+    ghost bytes = { port_record };
+
+    fn record(self) -> RecordBytes {
+        RecordBuilder::new(Self::TABLE, 0, 0)
+            .word(self.binding.0)
+            .word(self.scope.0)
+            .range(self.triggers)
+            .build()
+    }
+}
+
+impl Recorded for ReactionImage {
+    ghost bytes = { reaction_record };
+
+    fn record(self) -> RecordBytes {
+        let effect = self.mode_effect;
+        let bits = bits(self.external_effect, effect.is_some());
+        let kind = effect.map_or(0, |effect| effect.transition as u8);
+        RecordBuilder::new(Self::TABLE, bits, kind)
+            .word(self.reactor.0)
+            .word(self.scope.0)
+            .word(self.dependency_level)
+            .word(self.binding.0)
+            .range(self.use_ports)
+            .range(self.effect_ports)
+            .range(self.actions)
+            .range(self.enabled_modes)
+            .word(effect.map_or(0, |effect| effect.target.0))
+            .build()
+    }
+}
+
+impl Recorded for ModeImage {
+    ghost bytes = { mode_record };
+
+    fn record(self) -> RecordBytes {
+        let ModeImage { reactor, scope } = self;
+        RecordBuilder::new(Self::TABLE, 0, 0)
+            .word(reactor.0)
+            .word(scope.0)
+            .build()
+    }
+}
+
+impl Recorded for ScopeImage {
+    ghost bytes = { scope_record };
+
+    fn record(self) -> RecordBytes {
+        let bits = bits(self.parent.is_some(), self.mode.is_some());
+        RecordBuilder::new(Self::TABLE, bits, 0)
+            .word(self.parent.map_or(0, |parent| parent.0))
+            .word(self.reactor.0)
+            .word(self.mode.map_or(0, |mode| mode.0))
+            .range(self.descendants)
+            .range(self.logical_actions)
+            .range(self.timer_startups)
+            .range(self.reset_reactions)
+            .range(self.startup_reactions)
+            .range(self.shutdown_reactions)
+            .build()
+    }
+}
+
+impl Recorded for ReactionTrigger {
+    ghost bytes = { λ row. trigger_record row.holds };
+
+    fn record(self) -> RecordBytes {
+        RecordBuilder::new(Self::TABLE, 0, 0)
+            .word(self.holds.level)
+            .word(self.holds.reaction.0)
+            .build()
+    }
+}
+
+impl Recorded for RouteImage {
+    ghost bytes = { route_record };
+
+    fn record(self) -> RecordBytes {
+        let id = self.boundary;
+        let outbound = self.direction == RouteDirection::Outbound;
+        let physical = self.timing_domain == TimingDomain::Physical;
+        RecordBuilder::new(Self::TABLE, bits(id.house, false), bits(outbound, physical))
+            .place(id)
+            .word(self.local_port.0)
+            .long(self.delay_nanos)
+            .build()
+    }
+}
+
+impl Recorded for RequiredBindingImage {
+    ghost bytes = { binding_record };
+
+    fn record(self) -> RecordBytes {
+        RecordBuilder::new(Self::TABLE, bits(self.id.house, false), self.kind as u8)
+            .place(self.id)
+            .build()
+    }
+}
+
+// An action's kind, its period bit, and its minimum delay or period.
+fn timing_fields(timing: ActionTiming) -> (u8, bool, u64)
+    ensures kind { result.0 ≡ timing_kind timing }
+    ensures period { result.1 ≡ has_period timing }
+    ensures nanos { result.2 ≡ timing_nanos timing }
+{
+    match timing {
+        ActionTiming::Standard {
+            domain,
+            min_delay_nanos,
+        } => (domain as u8, false, min_delay_nanos),
+        ActionTiming::Timer { period_nanos } => {
+            (2, period_nanos.is_some(), period_nanos.unwrap_or(0))
         }
-    }
-
-    // Puts the field's bytes into a record from the offset `at`, high byte first.
-    #[tactic(auto, unfolding(crate::specs::Packs::bytes))]
-    fn put(self, bytes: &mut [u8], at: usize)
-        requires { at + width self ≤ length bytes.old }
-        ensures { bytes.new ≡ take at bytes.old ++ (field_bytes self ++ drop (at + width self) bytes.old) }
-    {
-        match self {
-            W(n) => bytes[at..at + 4].copy_from_slice(&n.to_be_bytes()),
-            D(n) => bytes[at..at + 8].copy_from_slice(&n.to_be_bytes()),
-        }
+        ActionTiming::Shutdown => (3, false, 0),
     }
 }
 
-// Puts a record into a pack as record n. All other bytes are as before.
-pub fn put(pack: &mut [u8], n: usize, bytes: Record)
-    requires { n * 64 + 64 ≤ length pack.old }
-    ensures { pack.new ≡ take (n * 64) pack.old ++ (bytes ++ drop (n * 64 + 64) pack.old) }
-{
-    pack[n * 64..n * 64 + 64].copy_from_slice(&bytes);
-}
+// Room for a pack of 32 records.
+pub type Pack = ArrayVec<u8, 2048>;
 
-// A record with its bytes 0 to 2.
-#[tactic(auto, unfolding(crate::specs::Packs::rec))]
-fn start(table: u8, bits: u8, kind: u8) -> Record
-    ensures { result ≡ record_of table bits kind [] }
+// Puts records into a pack, behind those that it has; none of them where there is no room for all.
+pub fn put(pack: &mut Pack, records: &[RecordBytes]) -> Result<(), CapacityError>
+    ensures fits { IsOk result ↔ (array_vec_len pack.old + length records.now * 64 ≤ 2048) }
+    ensures ok { OnOk result (pack.new.items ≡ pack.old.items ++ flat_map (λ bytes. bytes) records.now) }
+    ensures err { OnErr result (pack.new ≡ pack.old) }
 {
-    let mut bytes = [0u8; 64];
-    bytes[0] = table;
-    bytes[1] = bits;
-    bytes[2] = kind;
-    bytes
-}
-
-// The record of a table with these bits, kind and fields.
-#[tactic(auto, using(crate::proofs::FieldBytes::field_laws))]
-fn record(table: u8, bits: u8, kind: u8, fields: &[Field]) -> Record
-    requires { 4 + sum_by width fields.now ≤ 64 }
-    ensures { result ≡ record_of table bits kind fields.now }
-{
-    let mut bytes = start(table, bits, kind);
-    let mut at = 4;
-    for field in fields {
-        field.put(&mut bytes, at);
-        at += field.width();
-    }
-    bytes
-}
-
-pub fn federate(row: FederateImage) -> Record
-    ensures { result ≡ federate_record row }
-{
-    let (id, target, runtime) = (row.id, row.target, row.runtime);
-    let bits = fields::three_bits(id.house, target.house, runtime.house);
-    let span = row.enclaves.0;
-    let fields = [
-        W(id.start),
-        W(id.len),
-        W(target.start),
-        W(target.len),
-        W(runtime.start),
-        W(runtime.len),
-        D(span.start),
-        D(span.len),
-    ];
-    record(FederateImage::TABLE, bits, 0, &fields)
-}
-
-pub fn enclave(row: EnclaveImage) -> Record
-    ensures { result ≡ enclave_record row }
-{
-    let id = row.enclave_id;
-    let bounds = row.storage_bounds;
-    let fields = [
-        W(id.start),
-        W(id.len),
-        W(bounds.state_slots),
-        W(bounds.action_slots),
-        W(bounds.event_capacity),
-        D(bounds.payload_bytes),
-        D(bounds.state_bytes),
-        D(bounds.scratch_bytes),
-    ];
-    record(
-        EnclaveImage::TABLE,
-        fields::bits(id.house, false),
-        0,
-        &fields,
-    )
-}
-
-pub fn reactor(row: ReactorImage) -> Record
-    ensures { result ≡ reactor_record row }
-{
-    let mode = fields::mode_field(row.initial_mode);
-    let bank = fields::bank_fields(row.bank);
-    let bits = fields::bits(mode.present, bank.present);
-    let modes = row.modes.0;
-    let fields = [
-        W(row.state_binding.0),
-        W(row.state_slot),
-        W(row.root_scope.0),
-        D(modes.start),
-        D(modes.len),
-        W(mode.number),
-        W(bank.index),
-        W(bank.total),
-    ];
-    record(ReactorImage::TABLE, bits, 0, &fields)
-}
-
-pub fn action(row: ActionImage) -> Record
-    ensures { result ≡ action_record row }
-{
-    let binding = fields::binding_field(row.binding);
-    let timing = fields::timing_fields(row.timing);
-    let bits = fields::bits(binding.present, timing.period);
-    let triggers = row.triggers;
-    let fields = [
-        W(row.scope.0),
-        W(row.storage_slot),
-        W(binding.number),
-        D(timing.nanos),
-        W(triggers.start),
-        W(triggers.len),
-    ];
-    record(ActionImage::TABLE, bits, timing.kind, &fields)
-}
-
-pub fn port(row: PortImage) -> Record
-    ensures { result ≡ port_record row }
-{
-    let triggers = row.triggers;
-    let fields = [
-        W(row.binding.0),
-        W(row.scope.0),
-        W(triggers.start),
-        W(triggers.len),
-    ];
-    record(PortImage::TABLE, 0, 0, &fields)
-}
-
-pub fn reaction(row: ReactionImage) -> Record
-    ensures { result ≡ reaction_record row }
-{
-    let effect = fields::effect_fields(row.mode_effect);
-    let bits = fields::bits(row.external_effect, effect.present);
-    let fields = [
-        W(row.reactor.0),
-        W(row.scope.0),
-        W(row.dependency_level),
-        W(row.binding.0),
-        W(row.use_ports.start),
-        W(row.use_ports.len),
-        W(row.effect_ports.start),
-        W(row.effect_ports.len),
-        W(row.actions.start),
-        W(row.actions.len),
-        W(row.enabled_modes.start),
-        W(row.enabled_modes.len),
-        W(effect.target),
-    ];
-    record(ReactionImage::TABLE, bits, effect.kind, &fields)
-}
-
-pub fn mode(row: ModeImage) -> Record
-    ensures { result ≡ mode_record row }
-{
-    record(ModeImage::TABLE, 0, 0, &[W(row.reactor.0), W(row.scope.0)])
-}
-
-pub fn scope(row: ScopeImage) -> Record
-    ensures { result ≡ scope_record row }
-{
-    let parent = fields::scope_field(row.parent);
-    let mode = fields::mode_field(row.mode);
-    let bits = fields::bits(parent.present, mode.present);
-    let fields = [
-        W(parent.number),
-        W(row.reactor.0),
-        W(mode.number),
-        W(row.descendants.start),
-        W(row.descendants.len),
-        W(row.logical_actions.start),
-        W(row.logical_actions.len),
-        W(row.timer_startups.start),
-        W(row.timer_startups.len),
-        W(row.reset_reactions.start),
-        W(row.reset_reactions.len),
-        W(row.startup_reactions.start),
-        W(row.startup_reactions.len),
-        W(row.shutdown_reactions.start),
-        W(row.shutdown_reactions.len),
-    ];
-    record(ScopeImage::TABLE, bits, 0, &fields)
-}
-
-pub fn trigger(row: ReactionTrigger) -> Record
-    ensures { result ≡ trigger_record row.0 }
-{
-    let fields = [W(row.0.level), W(row.0.reaction.0)];
-    record(ReactionTrigger::TABLE, 0, 0, &fields)
-}
-
-pub fn route(row: RouteImage) -> Record
-    ensures { result ≡ route_record row }
-{
-    let id = row.boundary;
-    let outbound = fields::outbound(row.direction);
-    let kind = fields::bits(outbound, fields::physical(row.timing_domain));
-    let fields = [
-        W(id.start),
-        W(id.len),
-        W(row.local_port.0),
-        D(row.delay_nanos),
-    ];
-    record(
-        RouteImage::TABLE,
-        fields::bits(id.house, false),
-        kind,
-        &fields,
-    )
-}
-
-pub fn binding(row: RequiredBindingImage) -> Record
-    ensures { result ≡ binding_record row }
-{
-    let id = row.id;
-    let bits = fields::bits(id.house, false);
-    let kind = fields::binding_kind(row.kind);
-    let fields = [W(id.start), W(id.len)];
-    record(RequiredBindingImage::TABLE, bits, kind, &fields)
+    pack.try_extend_from_slice(records.as_flattened())
 }

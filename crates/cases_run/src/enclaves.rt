@@ -1,93 +1,42 @@
 // The cases of a station.
-use crate::show::{put, show_enclave};
-use crate::{parts, rows};
-use cases::records;
-use schema::index::RouteDirection;
-use schema::lists::ReactionTrigger;
+use crate::parts::{one_half, s, s_of, two_halves, two_scopes, uncovered_trigger};
+use crate::rows;
+use crate::show::{show_enclave, show_enclave_bytes};
+use anyhow::Result;
+use cases::records::{Pack, Recorded, put};
+use schema::entries::ReactionTrigger;
+use schema::index::{BindingKind, RouteDirection};
+use schema::row::Stored;
 use schema::rows::{ActionImage, EnclaveImage, ReactorImage, ScopeImage};
-use std::io;
 
-// S with another enclave, reactor or scope, of which the first `len` bytes are lent.
-fn with_rows(
-    rt: &HostRuntime,
-    name: &[u8],
-    enclave: EnclaveImage,
-    reactor: ReactorImage,
-    scope: ScopeImage,
-    len: usize,
-    batch: &[u8],
-) -> io::Result<()> {
-    let mut pack = [0u8; 2048];
-    parts::put_s(&mut pack, 0, enclave, reactor, scope);
-    show_enclave(rt, name, &pack, len, batch)
+fn with_enclave(rt: &HostRuntime, name: &[u8], enclave: EnclaveImage, batch: &[u8]) -> Result<()> {
+    show_enclave(rt, name, &s_of(enclave), batch)
 }
 
-fn with_enclave(
-    rt: &HostRuntime,
-    name: &[u8],
-    enclave: EnclaveImage,
-    batch: &[u8],
-) -> io::Result<()> {
-    with_rows(
-        rt,
-        name,
-        enclave,
-        ReactorImage::empty(),
-        ScopeImage::empty(),
-        256,
-        batch,
-    )
+fn with_bank(rt: &HostRuntime, name: &[u8], index: u32, total: u32) -> Result<()> {
+    let reactor = rows::bank_reactor(index, total);
+    let records = s(rows::enclave_s(), reactor, ScopeImage::empty());
+    show_enclave(rt, name, &records, b"ab")
 }
 
-fn with_reactor(rt: &HostRuntime, name: &[u8], reactor: ReactorImage) -> io::Result<()> {
-    with_rows(
-        rt,
-        name,
-        rows::enclave_s(),
-        reactor,
-        ScopeImage::empty(),
-        256,
-        b"ab",
-    )
-}
-
-fn without_reactor(rt: &HostRuntime) -> io::Result<()> {
-    let mut pack = [0u8; 2048];
-    put(&mut pack, 0, records::enclave(rows::enclave(0, 0, 1, 0)));
-    put(&mut pack, 1, records::scope(ScopeImage::empty()));
-    put(&mut pack, 2, records::binding(rows::binding_s()));
-    show_enclave(
-        rt,
-        b"S without its reactor, identity empty",
-        &pack,
-        192,
-        b"ab",
-    )
-}
-
-fn two_scopes(
-    rt: &HostRuntime,
-    name: &[u8],
-    first: ScopeImage,
-    second: ScopeImage,
-) -> io::Result<()> {
-    let mut pack = [0u8; 2048];
-    parts::put_two_scopes(&mut pack, 0, rows::enclave_s(), first, second);
-    show_enclave(rt, name, &pack, 320, b"ab")
+fn with_scopes(rt: &HostRuntime, name: &[u8], first: ScopeImage, second: ScopeImage) -> Result<()> {
+    let records = two_scopes(rows::enclave_s(), first, second);
+    show_enclave(rt, name, &records, b"ab")
 }
 
 // Reactor 0 has the modes 0+1, and reactor 1 an empty span.
-fn two_spans(rt: &HostRuntime, name: &[u8], start: u64) -> io::Result<()> {
-    let mut pack = [0u8; 2048];
-    put(&mut pack, 0, records::enclave(rows::enclave_s()));
-    put(&mut pack, 1, records::reactor(rows::reactor(0, 0, 1)));
-    put(&mut pack, 2, records::reactor(rows::reactor(1, start, 0)));
-    put(&mut pack, 3, records::mode(rows::mode(0, 2)));
-    put(&mut pack, 4, records::scope(rows::scope(0)));
-    put(&mut pack, 5, records::scope(rows::scope(1)));
-    put(&mut pack, 6, records::scope(rows::mode_scope(0)));
-    put(&mut pack, 7, records::binding(rows::binding_s()));
-    show_enclave(rt, name, &pack, 512, b"ab")
+fn with_spans(rt: &HostRuntime, name: &[u8], start: u64) -> Result<()> {
+    let records = [
+        rows::enclave_s().record(),
+        rows::reactor(0, 0, 1).record(),
+        rows::reactor(1, start, 0).record(),
+        rows::mode(0, 2).record(),
+        rows::scope(0).record(),
+        rows::scope(1).record(),
+        rows::mode_scope(0).record(),
+        rows::binding_s().record(),
+    ];
+    show_enclave(rt, name, &records, b"ab")
 }
 
 fn with_action(
@@ -95,180 +44,130 @@ fn with_action(
     name: &[u8],
     enclave: EnclaveImage,
     action: ActionImage,
-) -> io::Result<()> {
-    let mut pack = [0u8; 2048];
-    put(&mut pack, 0, records::enclave(enclave));
-    put(&mut pack, 1, records::reactor(ReactorImage::empty()));
-    put(&mut pack, 2, records::action(action));
-    put(&mut pack, 3, records::scope(ScopeImage::empty()));
-    put(&mut pack, 4, records::binding(rows::binding_s()));
-    show_enclave(rt, name, &pack, 320, b"ab")
+) -> Result<()> {
+    let records = [
+        enclave.record(),
+        ReactorImage::empty().record(),
+        action.record(),
+        ScopeImage::empty().record(),
+        rows::binding_s().record(),
+    ];
+    show_enclave(rt, name, &records, b"ab")
 }
 
 // An action and a port with the same trigger.
-fn shared_trigger(rt: &HostRuntime) -> io::Result<()> {
-    let mut pack = [0u8; 2048];
-    put(&mut pack, 0, records::enclave(rows::enclave_one_action()));
-    put(&mut pack, 1, records::reactor(ReactorImage::empty()));
-    put(&mut pack, 2, records::action(rows::triggering_action(1)));
-    put(&mut pack, 3, records::port(rows::port(2, 1)));
-    put(&mut pack, 4, records::reaction(rows::reaction(3)));
-    put(&mut pack, 5, records::scope(ScopeImage::empty()));
-    put(&mut pack, 6, records::trigger(ReactionTrigger::empty()));
-    put(&mut pack, 7, records::binding(rows::binding_s()));
-    put(&mut pack, 8, records::binding(rows::action_binding(2)));
-    put(&mut pack, 9, records::binding(rows::port_binding(3)));
-    put(&mut pack, 10, records::binding(rows::reaction_binding(4)));
-    show_enclave(
-        rt,
-        b"an action and a port with triggers 0+1",
-        &pack,
-        704,
-        b"abcde",
-    )
+fn shared_trigger(rt: &HostRuntime) -> Result<()> {
+    let records = [
+        rows::enclave_one_action().record(),
+        ReactorImage::empty().record(),
+        rows::triggering_action(1).record(),
+        rows::port(2, 1).record(),
+        rows::reaction(3).record(),
+        ScopeImage::empty().record(),
+        ReactionTrigger::empty().record(),
+        rows::binding_s().record(),
+        rows::binding(2, BindingKind::Action).record(),
+        rows::binding(3, BindingKind::Port).record(),
+        rows::binding(4, BindingKind::Reaction).record(),
+    ];
+    let name = b"an action and a port with triggers 0+1";
+    show_enclave(rt, name, &records, b"abcde")
 }
 
-fn uncovered_trigger(rt: &HostRuntime) -> io::Result<()> {
-    let mut pack = [0u8; 2048];
-    parts::put_uncovered_trigger(&mut pack, 0);
-    show_enclave(rt, b"an entry that no range covers", &pack, 320, b"ab")
+fn slots_and_parents(rt: &HostRuntime) -> Result<()> {
+    with_enclave(rt, b"S", rows::enclave_s(), b"ab")?;
+    with_enclave(rt, b"S, state slots 0", rows::enclave(0, 1, 0, 0), b"ab")?;
+    let without_reactor = [
+        rows::enclave(0, 0, 1, 0).record(),
+        ScopeImage::empty().record(),
+        rows::binding_s().record(),
+    ];
+    let name = b"S without its reactor, identity empty";
+    show_enclave(rt, name, &without_reactor, b"ab")?;
+    let (root, under) = (ScopeImage::empty(), rows::scope_under(0));
+    let own_parent = s(rows::enclave_s(), ReactorImage::empty(), under);
+    show_enclave(rt, b"S, scope 0 its own parent", &own_parent, b"ab")?;
+    with_scopes(rt, b"S and scope 1 under scope 0", root, under)?;
+    with_scopes(rt, b"each the other's parent", rows::scope_under(1), under)
+}
+
+fn spans_and_banks(rt: &HostRuntime) -> Result<()> {
+    with_spans(rt, b"modes 0+1, then 0+0", 0)?;
+    with_spans(rt, b"modes 0+1, then 1+0", 1)?;
+    with_bank(rt, b"bank index 0 of 0", 0, 0)?;
+    with_bank(rt, b"bank index 3 of 3", 3, 3)?;
+    with_bank(rt, b"bank index 2 of 3", 2, 3)
+}
+
+// The identity stands behind S's own text.
+fn identities(rt: &HostRuntime) -> Result<()> {
+    let two = rows::enclave(2, 2, 1, 0);
+    let three = rows::enclave(2, 3, 1, 0);
+    with_enclave(rt, b"identity ` a`", two, b"ab a")?;
+    with_enclave(rt, b"identity U+00A0", two, b"ab\xC2\xA0")?;
+    with_enclave(rt, b"identity `a b`", three, b"aba b")?;
+    with_enclave(rt, b"identity U+200B", three, b"ab\xE2\x80\x8B")
+}
+
+fn actions(rt: &HostRuntime) -> Result<()> {
+    let one = rows::enclave_one_action();
+    let none = rows::enclave_s();
+    let (timer, standard) = (rows::bound_timer(), ActionImage::empty());
+    with_action(rt, b"a timer with a binding", one, timer)?;
+    with_action(rt, b"a standard action without", one, standard)?;
+    let name = b"a timer with a binding, action slots 0";
+    with_action(rt, name, none, timer)?;
+    let name = b"a standard action without, action slots 0";
+    with_action(rt, name, none, standard)
 }
 
 // One half of the boundary `d`.
-fn one_half(rt: &HostRuntime, name: &[u8], direction: RouteDirection) -> io::Result<()> {
-    let mut pack = [0u8; 2048];
-    parts::put_half(&mut pack, 0, rows::enclave_s(), rows::route(3, direction));
-    show_enclave(rt, name, &pack, 448, b"abcd")
+fn lone_half(rt: &HostRuntime, name: &[u8], direction: RouteDirection) -> Result<()> {
+    let records = one_half(rows::enclave_s(), rows::route(3, direction));
+    show_enclave(rt, name, &records, b"abcd")
 }
 
 // Two halves of the boundary `d`.
-fn two_halves(
+fn both_halves(
     rt: &HostRuntime,
     name: &[u8],
     first: RouteDirection,
     second: RouteDirection,
-) -> io::Result<()> {
-    let mut pack = [0u8; 2048];
-    parts::put_halves(
-        &mut pack,
-        0,
-        rows::enclave_s(),
-        rows::route(3, first),
-        rows::route(3, second),
-    );
-    show_enclave(rt, name, &pack, 512, b"abcd")
+) -> Result<()> {
+    let (first, second) = (rows::route(3, first), rows::route(3, second));
+    let records = two_halves(rows::enclave_s(), first, second);
+    show_enclave(rt, name, &records, b"abcd")
 }
 
-fn slots_and_parents(rt: &HostRuntime) -> io::Result<()> {
-    with_enclave(rt, b"S", rows::enclave_s(), b"ab")?;
-    with_enclave(rt, b"S, state slots 0", rows::enclave(0, 1, 0, 0), b"ab")?;
-    without_reactor(rt)?;
-    with_rows(
-        rt,
-        b"S, scope 0 its own parent",
-        rows::enclave_s(),
-        ReactorImage::empty(),
-        rows::scope_under(0),
-        256,
-        b"ab",
-    )?;
-    two_scopes(
-        rt,
-        b"S and scope 1 under scope 0",
-        ScopeImage::empty(),
-        rows::scope_under(0),
-    )?;
-    two_scopes(
-        rt,
-        b"each the other's parent",
-        rows::scope_under(1),
-        rows::scope_under(0),
-    )
+// The first bytes of S.
+fn cut(rt: &HostRuntime, name: &[u8], len: usize) -> Result<()> {
+    let mut pack = Pack::new();
+    put(&mut pack, &s_of(rows::enclave_s()))?;
+    pack.truncate(len);
+    show_enclave_bytes(rt, name, pack.as_slice(), b"ab")
 }
 
-fn spans_and_banks(rt: &HostRuntime) -> io::Result<()> {
-    two_spans(rt, b"modes 0+1, then 0+0", 0)?;
-    two_spans(rt, b"modes 0+1, then 1+0", 1)?;
-    with_reactor(rt, b"bank index 0 of 0", rows::bank_reactor(0, 0))?;
-    with_reactor(rt, b"bank index 3 of 3", rows::bank_reactor(3, 3))?;
-    with_reactor(rt, b"bank index 2 of 3", rows::bank_reactor(2, 3))
+fn lengths(rt: &HostRuntime) -> Result<()> {
+    cut(rt, b"63 bytes", 63)?;
+    cut(rt, b"65 bytes", 65)?;
+    let name = b"identity of length 0 at the text's end";
+    with_enclave(rt, name, rows::enclave(2, 0, 1, 0), b"ab")
 }
 
-// The identity stands behind S's own text.
-fn identities(rt: &HostRuntime) -> io::Result<()> {
-    with_enclave(rt, b"identity ` a`", rows::enclave(2, 2, 1, 0), b"ab a")?;
-    with_enclave(
-        rt,
-        b"identity U+00A0",
-        rows::enclave(2, 2, 1, 0),
-        b"ab\xC2\xA0",
-    )?;
-    with_enclave(rt, b"identity `a b`", rows::enclave(2, 3, 1, 0), b"aba b")?;
-    with_enclave(
-        rt,
-        b"identity U+200B",
-        rows::enclave(2, 3, 1, 0),
-        b"ab\xE2\x80\x8B",
-    )
-}
-
-fn actions(rt: &HostRuntime) -> io::Result<()> {
-    let one = rows::enclave_one_action();
-    let none = rows::enclave_s();
-    with_action(rt, b"a timer with a binding", one, rows::bound_timer())?;
-    with_action(rt, b"a standard action without", one, ActionImage::empty())?;
-    with_action(
-        rt,
-        b"a timer with a binding, action slots 0",
-        none,
-        rows::bound_timer(),
-    )?;
-    with_action(
-        rt,
-        b"a standard action without, action slots 0",
-        none,
-        ActionImage::empty(),
-    )?;
-    shared_trigger(rt)
-}
-
-fn lengths(rt: &HostRuntime) -> io::Result<()> {
-    let enclave = rows::enclave_s();
-    let reactor = ReactorImage::empty();
-    let scope = ScopeImage::empty();
-    with_rows(rt, b"63 bytes", enclave, reactor, scope, 63, b"ab")?;
-    with_rows(rt, b"65 bytes", enclave, reactor, scope, 65, b"ab")?;
-    with_enclave(
-        rt,
-        b"identity of length 0 at the text's end",
-        rows::enclave(2, 0, 1, 0),
-        b"ab",
-    )
-}
-
-fn misreadings(rt: &HostRuntime) -> io::Result<()> {
-    uncovered_trigger(rt)?;
-    two_halves(
-        rt,
-        b"equal boundaries, inbound first",
-        RouteDirection::Inbound,
-        RouteDirection::Outbound,
-    )?;
-    two_halves(
-        rt,
-        b"equal boundaries, outbound first",
-        RouteDirection::Outbound,
-        RouteDirection::Inbound,
-    )
-}
-
-pub fn cases(rt: &HostRuntime) -> io::Result<()> {
+pub fn cases(rt: &HostRuntime) -> Result<()> {
+    let (inbound, outbound) = (RouteDirection::Inbound, RouteDirection::Outbound);
     slots_and_parents(rt)?;
     spans_and_banks(rt)?;
     identities(rt)?;
     actions(rt)?;
-    one_half(rt, b"a lone route half, inbound", RouteDirection::Inbound)?;
-    one_half(rt, b"a lone route half, outbound", RouteDirection::Outbound)?;
+    shared_trigger(rt)?;
+    lone_half(rt, b"a lone route half, inbound", inbound)?;
+    lone_half(rt, b"a lone route half, outbound", outbound)?;
     lengths(rt)?;
-    misreadings(rt)
+    let name = b"an entry that no range covers";
+    show_enclave(rt, name, &uncovered_trigger(), b"ab")?;
+    let name = b"equal boundaries, inbound first";
+    both_halves(rt, name, inbound, outbound)?;
+    let name = b"equal boundaries, outbound first";
+    both_halves(rt, name, outbound, inbound)
 }

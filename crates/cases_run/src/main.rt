@@ -7,9 +7,9 @@ mod parts;
 mod rows;
 mod show;
 
-use std::io;
+use anyhow::Result;
 
-fn main(rt: HostRuntime) -> io::Result<()> {
+fn main(rt: HostRuntime) -> Result<()> {
     enclaves::cases(&rt)?;
     federates::cases(&rt)
 }

@@ -1,100 +1,79 @@
-// The stations that both kinds of cases have, from record n of a pack on.
-ghost use Rattle.std.specs.Prelude.{◌≤◌};
-
+// The stations that both kinds of cases have, record by record.
 use crate::rows;
-use crate::show::{Pack, put};
-use cases::records;
-use schema::lists::ReactionTrigger;
+use cases::records::{RecordBytes, Recorded};
+use schema::entries::ReactionTrigger;
+use schema::index::BindingKind;
+use schema::row::Stored;
 use schema::rows::{EnclaveImage, ReactorImage, RouteImage, ScopeImage};
 
-// S with another enclave, reactor or scope: 4 records.
-pub fn put_s(
-    pack: &mut Pack,
-    n: usize,
-    enclave: EnclaveImage,
-    reactor: ReactorImage,
-    scope: ScopeImage,
-)
-    requires { n ≤ 28 }
-{
-    put(pack, n, records::enclave(enclave));
-    put(pack, n + 1, records::reactor(reactor));
-    put(pack, n + 2, records::scope(scope));
-    put(pack, n + 3, records::binding(rows::binding_s()));
+// S with another enclave, reactor or scope.
+pub fn s(enclave: EnclaveImage, reactor: ReactorImage, scope: ScopeImage) -> [RecordBytes; 4] {
+    [
+        enclave.record(),
+        reactor.record(),
+        scope.record(),
+        rows::binding_s().record(),
+    ]
 }
 
-// An enclave and an empty reactor: 2 records.
-fn put_root(pack: &mut Pack, n: usize, enclave: EnclaveImage)
-    requires { n ≤ 30 }
-{
-    put(pack, n, records::enclave(enclave));
-    put(pack, n + 1, records::reactor(ReactorImage::empty()));
+// S with another enclave.
+pub fn s_of(enclave: EnclaveImage) -> [RecordBytes; 4] {
+    s(enclave, ReactorImage::empty(), ScopeImage::empty())
 }
 
-// S with two scopes: 5 records.
-pub fn put_two_scopes(
-    pack: &mut Pack,
-    n: usize,
+// S with another enclave and two scopes.
+pub fn two_scopes(
     enclave: EnclaveImage,
     first: ScopeImage,
     second: ScopeImage,
-)
-    requires { n ≤ 27 }
-{
-    put_root(pack, n, enclave);
-    put(pack, n + 2, records::scope(first));
-    put(pack, n + 3, records::scope(second));
-    put(pack, n + 4, records::binding(rows::binding_s()));
+) -> [RecordBytes; 5] {
+    [
+        enclave.record(),
+        ReactorImage::empty().record(),
+        first.record(),
+        second.record(),
+        rows::binding_s().record(),
+    ]
 }
 
-// S with a trigger that no range covers, and no reaction: 5 records.
-pub fn put_uncovered_trigger(pack: &mut Pack, n: usize)
-    requires { n ≤ 27 }
-{
-    put_root(pack, n, rows::enclave_s());
-    put(pack, n + 2, records::scope(ScopeImage::empty()));
-    put(pack, n + 3, records::trigger(ReactionTrigger::empty()));
-    put(pack, n + 4, records::binding(rows::binding_s()));
+// S with a trigger that no range covers, and no reaction.
+pub fn uncovered_trigger() -> [RecordBytes; 5] {
+    [
+        rows::enclave_s().record(),
+        ReactorImage::empty().record(),
+        ScopeImage::empty().record(),
+        ReactionTrigger::empty().record(),
+        rows::binding_s().record(),
+    ]
 }
 
-// S up to its scope, with another enclave and a port: 4 records.
-fn put_port(pack: &mut Pack, n: usize, enclave: EnclaveImage)
-    requires { n ≤ 28 }
-{
-    put_root(pack, n, enclave);
-    put(pack, n + 2, records::port(rows::port(1, 0)));
-    put(pack, n + 3, records::scope(ScopeImage::empty()));
+// S with another enclave, a port `c` and one half of a boundary.
+pub fn one_half(enclave: EnclaveImage, half: RouteImage) -> [RecordBytes; 7] {
+    [
+        enclave.record(),
+        ReactorImage::empty().record(),
+        rows::port(1, 0).record(),
+        ScopeImage::empty().record(),
+        half.record(),
+        rows::binding_s().record(),
+        rows::binding(2, BindingKind::Port).record(),
+    ]
 }
 
-// S's binding and the port's, `c`: 2 records.
-fn put_bindings(pack: &mut Pack, n: usize)
-    requires { n ≤ 30 }
-{
-    put(pack, n, records::binding(rows::binding_s()));
-    put(pack, n + 1, records::binding(rows::port_binding(2)));
-}
-
-// S with another enclave, a port `c` and one half of a boundary: 7 records.
-pub fn put_half(pack: &mut Pack, n: usize, enclave: EnclaveImage, half: RouteImage)
-    requires { n ≤ 25 }
-{
-    put_port(pack, n, enclave);
-    put(pack, n + 4, records::route(half));
-    put_bindings(pack, n + 5);
-}
-
-// The same with two halves: 8 records.
-pub fn put_halves(
-    pack: &mut Pack,
-    n: usize,
+// And with two halves.
+pub fn two_halves(
     enclave: EnclaveImage,
     first: RouteImage,
     second: RouteImage,
-)
-    requires { n ≤ 24 }
-{
-    put_port(pack, n, enclave);
-    put(pack, n + 4, records::route(first));
-    put(pack, n + 5, records::route(second));
-    put_bindings(pack, n + 6);
+) -> [RecordBytes; 8] {
+    [
+        enclave.record(),
+        ReactorImage::empty().record(),
+        rows::port(1, 0).record(),
+        ScopeImage::empty().record(),
+        first.record(),
+        second.record(),
+        rows::binding_s().record(),
+        rows::binding(2, BindingKind::Port).record(),
+    ]
 }

@@ -1,74 +1,55 @@
 // A line for each case: its name, and the answer of the check for its pack.
-ghost use Rattle.std.specs.Prelude.{◌<◌, ◌≤◌};
-
-use answers::Refusal;
-use cases::records;
-use cases::records::Record;
-use enclave::EnclaveAnswer;
+use anyhow::Result;
+use cases::records::{Pack, RecordBytes, Recorded, put};
 use enclave::check::check_enclave;
-use federate::FederateAnswer;
+use federate::FederateAccepted;
 use federate::check::check_federate;
+use schema::rows::FederateImage;
 use std::io;
 use std::io::Write;
-
-// Room for 32 records.
-pub type Pack = [u8; 2048];
-
-// Puts a record into a pack, as its record n.
-pub fn put(pack: &mut Pack, n: usize, bytes: Record)
-    requires { n < 32 }
-{
-    records::put(pack, n, bytes);
-}
 
 fn show_name(rt: &HostRuntime, name: &[u8]) -> io::Result<()> {
     io::writer(rt).write_all(name)?;
     print!(rt; ": ")
 }
 
-// The refusal's number and the values after it.
-fn show_refusal(rt: &HostRuntime, refusal: Refusal) -> io::Result<()> {
-    let list = answers::numbers(refusal);
-    print!(rt; "refused")?;
-    for n in list.values.iter().take(list.len) {
-        print!(rt; " {n}")?;
+// The answer for the bytes of a station.
+pub fn show_enclave_bytes(rt: &HostRuntime, name: &[u8], pack: &[u8], batch: &[u8]) -> Result<()> {
+    show_name(rt, name)?;
+    match check_enclave(pack, batch, b"") {
+        Ok(links) => println!(rt; "accepted {links}")?,
+        Err(refusal) => println!(rt; "refused {refusal}")?,
     }
-    println!(rt; "")
+    Ok(())
 }
 
-// The first `len` bytes of a pack, as a station.
+// The answer for the records of a station.
 pub fn show_enclave(
     rt: &HostRuntime,
     name: &[u8],
-    pack: &Pack,
-    len: usize,
+    records: &[RecordBytes],
     batch: &[u8],
-) -> io::Result<()> {
-    if pack.len() < len {
-        return Ok(());
-    }
-    show_name(rt, name)?;
-    match check_enclave(&pack[..len], batch, b"") {
-        EnclaveAnswer::Accepted { links } => println!(rt; "accepted {links}"),
-        EnclaveAnswer::Refused(refusal) => show_refusal(rt, refusal),
-    }
+) -> Result<()> {
+    show_enclave_bytes(rt, name, records.as_flattened(), batch)
 }
 
-// The first records of a pack, as a line.
+// The answer for a line: its own record, and the records of each station.
 pub fn show_federate(
     rt: &HostRuntime,
     name: &[u8],
-    pack: &Pack,
-    records: usize,
+    federate: FederateImage,
+    stations: &[&[RecordBytes]],
     batch: &[u8],
-) -> io::Result<()>
-    requires { records ≤ 32 }
-{
-    show_name(rt, name)?;
-    match check_federate(&pack[..records * 64], batch, b"") {
-        FederateAnswer::Accepted { enclaves, links } => {
-            println!(rt; "accepted {enclaves} {links}")
-        }
-        FederateAnswer::Refused(refusal) => show_refusal(rt, refusal),
+) -> Result<()> {
+    let mut pack = Pack::new();
+    put(&mut pack, &[federate.record()])?;
+    for station in stations {
+        put(&mut pack, station)?;
     }
+    show_name(rt, name)?;
+    match check_federate(pack.as_slice(), batch, b"") {
+        Ok(FederateAccepted { enclaves, links }) => println!(rt; "accepted {enclaves} {links}")?,
+        Err(refusal) => println!(rt; "refused {refusal}")?,
+    }
+    Ok(())
 }

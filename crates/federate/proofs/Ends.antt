@@ -1,26 +1,41 @@
 -- Where the enclave of a record ends, and its pack. Assumes nothing.
-use Rattle.std.proofs.Common.{ℕ, zero, suc, ◌+◌, ◌-◌, ◌*◌, ◌/◌, ◌%◌, ◌<◌, ◌≤◌, Bool, true, false, cond, ◌≡◌, refl, ap, List, length, take, drop, length-drop, add-one, arith}
+use Prim.Native.Nat.{max}
+use Rattle.std.proofs.Common.{ℕ, zero, suc, ◌+◌, ◌-◌, ◌*◌, ◌/◌, ◌%◌, ◌<◌, ◌≤◌, Bool, true, false, cond, ◌≡◌, refl, sym, ◌∙◌, ap, List, length, take, drop, length-drop, arith}
 use Rattle.std.proofs.Math.Seq.{length-take-le}
-use Rattle.schema.specs.Rows.{Whole}
+use Rattle.std.specs.Prelude.{Option, Some, None, MatchOption}
+use Rattle.std.specs.Option.{unwrap_or}
+use Rattle.route_pairs.proofs.Tests.{same_or}
+use Rattle.schema.specs.Bytes.{Whole}
 use Rattle.schema.specs.Records.{records_of, is_of}
 use Rattle.schema.proofs.Counts.{records_inside}
 use Rattle.federate.specs.Records.{enclave_from, enclave_end, enclave_pack}
 
--- looking for the next enclave's record
-module _ (p : List ℕ) (n : ℕ) where
-  pub from_next : n < records_of p → is_of p 1 n ≡ false → enclave_from p n (records_of p - n) ≡ enclave_from p (n + 1) (records_of p - (n + 1))
-  unfolding enclave_from
-  from_next h e = let k : records_of p - n ≡ suc (records_of p - (n + 1)) = omega arith in rw (k, e, add-one) refl
+-- the first enclave's record of k records from n on is record i, where that is one and none before it is
+abbrev NoneBelow : List ℕ → ℕ → ℕ → Type 0
+NoneBelow p n e = (k : ℕ) → n ≤ k → k < e → is_of p 1 k ≡ false
 
-  pub from_found : n < records_of p → is_of p 1 n ≡ true → enclave_from p n (records_of p - n) ≡ n
-  unfolding enclave_from
-  from_found h e = let k : records_of p - n ≡ suc (records_of p - (n + 1)) = omega arith in rw (k, e) refl
+from-is : (p : List ℕ) (k n i : ℕ) → n ≤ i → i < n + k → is_of p 1 i ≡ true → NoneBelow p n i → enclave_from p n k ≡ i
+unfolding enclave_from
+from-is p zero n i h g e none = absurd (omega arith)
+from-is p (suc k) n i h g e none =
+    same_or n i
+    (λ (q : n ≡ i). rw (q, e))
+    (λ ne. rw (none n (omega arith) (omega arith)) (from-is p k (suc n) i (omega arith) (omega arith) e (λ j a b. none j (omega arith) b)))
 
-  pub from_over : records_of p ≤ n → enclave_from p n (records_of p - n) ≡ n
-  unfolding enclave_from
-  from_over h = let k : records_of p - n ≡ 0 = omega arith in rw k refl
+from-none : (p : List ℕ) (k n : ℕ) → NoneBelow p n (n + k) → enclave_from p n k ≡ n + k
+unfolding enclave_from
+from-none p zero n none = let e : n + 0 ≡ n = omega arith in rw e refl
+from-none p (suc k) n none =
+    let e : n + suc k ≡ suc n + k = omega arith in
+    rw (none n (omega arith) (omega arith), e) (from-none p k (suc n) (λ j a b. none j (omega arith) (omega arith)))
 
-pub ruleset from_laws = (from_next, from_found, from_over)
+-- what a search through the records finds
+pub searched : (p : List ℕ) (n m e : ℕ) (r : Option ℕ) → e ≡ max m n → m ≡ records_of p
+    → MatchOption r (NoneBelow p n m) (λ i. (n ≤ i) × (i < m) × (is_of p 1 i ≡ true) × NoneBelow p n i) → unwrap_or r e ≡ enclave_from p n (records_of p - n)
+searched p n m e None f g none =
+    let k : n + (records_of p - n) ≡ e = omega arith in
+    sym (from-none p (records_of p - n) n (λ j a b. none j a (omega arith)) ∙ k)
+searched p n m e (Some i) f g (a, b, t, none) = sym (from-is p (records_of p - n) n i a (omega arith) t none)
 
 -- it ends after its own record, and inside the pack
 either : (b : Bool) (k n m : ℕ) → (suc n ≤ m) × (m ≤ suc n + k) → (n ≤ cond b n m) × (cond b n m ≤ n + suc k)

@@ -1,3 +1,4 @@
 pub mod Ends
+pub mod Gaps
 pub mod EnclaveLaws
 pub mod Whole

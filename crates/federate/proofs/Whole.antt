@@ -1,75 +1,75 @@
 -- The answer at each place where the federate check can stop. Assumes nothing.
 use Rattle.std.proofs.Common.{ℕ, ◌≡◌, refl, ◌∙◌, sym, List, [], ◌∷◌, ◌++◌, append_assoc}
+use Rattle.std.specs.Prelude.{Result, Ok, Err}
 use Rattle.identity.specs.Text.{identity_text}
 use Rattle.answers.specs.declared.Refusal.{Refusal}
-use Rattle.answers.specs.declared.Outcome.{Outcome}
-use Rattle.answers.specs.declared.Outcome.TheVariants.{Passed, Refused}
 use Rattle.answers.specs.Numbers.{numbers}
-use Rattle.answers.specs.Checks.{Check, first, run}
-use Rattle.answers.proofs.Laws.{first_past, first_stops}
-use Rattle.schema.specs.declared.rows.FederateImage.{FederateImage}
+use Rattle.answers.specs.Checks.{Check, first, run, Outcome, passed, answer_of}
+use Rattle.answers.proofs.Laws.{first_past, first_stops, answered, not_answered}
 use Rattle.schema.specs.Rows.{federate_at}
 use Rattle.schema.specs.Records.{records_of}
 use Rattle.packing.specs.declared.PackKind.TheVariants.{Federate}
 use Rattle.packing.specs.Packing.{packing_checks}
-use Rattle.enclave.specs.declared.EnclaveAnswer.TheVariants as answer
-use Rattle.enclave.specs.Answer.{answer_of}
-use Rattle.federate.specs.Records.{enclaves_of}
-use Rattle.federate.specs.Enclaves.{record_checks}
+use Rattle.enclave.specs.Answer.{unless}
 use Rattle.route_pairs.specs.RoutePairs.{route_record_checks}
-use Rattle.federate.specs.Federate.{metadata_checks, count_check, federate_checks}
-use Rattle.federate.specs.Answer.{refused_by, federate_numbers, federate_links, packed_answer, federate_answer}
-use Rattle.federate.proofs.EnclaveLaws.{accepted-so, refused-so}
+use Rattle.federate.specs.declared.FederateAccepted.{FederateAccepted}
+use Rattle.federate.specs.Records.{enclaves_of}
+use Rattle.federate.specs.Enclaves.{record_checks, enclaves_answer}
+use Rattle.federate.specs.Federate.{own_checks, federate_checks}
+use Rattle.federate.specs.Answer.{federate_numbers, federate_links, federate_result, packed_answer, federate_answer}
 
 module _ (p batch house : List ℕ) where
-  pub packing_refused : (r : Refusal) → Refused r ≡ first (packing_checks Federate p batch house) → numbers r ≡ federate_answer p batch house
-  unfolding federate_answer
-  packing_refused r e = rw (← e) refl
+  -- the federate's own record, its enclaves, and the routes of all
+  abbrev pub own : List Check
+  own = own_checks (identity_text batch house) (federate_at p 0) (enclaves_of p)
 
-  pub is_packed : (ns : List ℕ) → Passed ≡ first (packing_checks Federate p batch house) → ns ≡ packed_answer p batch house → ns ≡ federate_answer p batch house
-  unfolding federate_answer
-  is_packed ns e d = rw (← e) d
+  abbrev start : ℕ
+  start = (federate_at p 0).enclaves.0.start
 
-  -- the federate's own record, as it was read, and its enclaves' number
-  abbrev own : FederateImage → ℕ → List Check
-  own f n = metadata_checks (identity_text batch house) f ++ (count_check f n ∷ [])
+  abbrev enclaves : List Check
+  enclaves = run (record_checks p batch house start) 0 (records_of p)
 
-  abbrev enclaves : ℕ → List Check
-  enclaves start = run (record_checks p batch house start) 0 (records_of p)
-
-  abbrev routes : List Check
+  abbrev pub routes : List Check
   routes = run (route_record_checks (identity_text batch house) p) 0 (records_of p)
 
-  module _ (f : FederateImage) (fed : f ≡ federate_at p 0) (n : ℕ) (count : n ≡ enclaves_of p) where
-    in-parts : federate_checks p batch house ≡ own f n ++ (enclaves f.enclaves.0.start ++ routes)
-    unfolding federate_checks
-    in-parts = rw (fed, count) (simp append_assoc)
+  abbrev pub found : Result ℕ Refusal
+  found = enclaves_answer p batch house start
 
-    pub own_refused : (o : Outcome) → o ≡ first (own f n) → (o ≡ Passed → ⊥) → federate_numbers (refused_by o) ≡ packed_answer p batch house
-    unfolding packed_answer
-    own_refused Passed e x = absurd (x refl)
-    own_refused (Refused r) e x = rw (in-parts, first_stops (own f n) (enclaves f.enclaves.0.start ++ routes) (sym e)) refl
+  in-parts : federate_checks p batch house ≡ own ++ (enclaves ++ routes)
+  unfolding federate_checks
+  in-parts = simp append_assoc
 
-    module _ (o : Passed ≡ first (own f n)) where
-      past-own : first (federate_checks p batch house) ≡ first (enclaves f.enclaves.0.start ++ routes)
-      past-own = rw in-parts (first_past (own f n) (enclaves f.enclaves.0.start ++ routes) (sym o))
+  pub own_refused : {r : Refusal} → first own ≡ Err r → federate_result p batch house ≡ Err r
+  unfolding federate_result
+  own_refused e = rw (in-parts, first_stops own (enclaves ++ routes) e) refl
 
-      pub enclaves_refused : (r : Refusal) → answer.Refused r ≡ answer_of (first (enclaves f.enclaves.0.start)) (federate_links p batch house) → numbers r ≡ packed_answer p batch house
-      unfolding packed_answer
-      enclaves_refused r e = rw (past-own, first_stops (enclaves f.enclaves.0.start) routes (refused-so (first (enclaves f.enclaves.0.start)) _ r e)) refl
+  past-own : first own ≡ passed → first (federate_checks p batch house) ≡ first (enclaves ++ routes)
+  past-own e = rw in-parts (first_past own (enclaves ++ routes) e)
 
-      module _ (k : ℕ) (e : answer.Accepted k ≡ answer_of (first (enclaves f.enclaves.0.start)) (federate_links p batch house)) where
-        found : (first (enclaves f.enclaves.0.start) ≡ Passed) × (k ≡ federate_links p batch house)
-        found = accepted-so (first (enclaves f.enclaves.0.start)) _ k e
+  pub enclaves_refused : {r : Refusal} → first own ≡ passed → found ≡ Err r → federate_result p batch house ≡ Err r
+  unfolding federate_result
+  enclaves_refused e f = rw (past-own e, first_stops enclaves routes (not_answered (first enclaves) (federate_links p batch house) f)) refl
 
-        past-enclaves : first (federate_checks p batch house) ≡ first routes
-        past-enclaves = past-own ∙ first_past (enclaves f.enclaves.0.start) routes found.0
+  past-enclaves : {k : ℕ} → first own ≡ passed → found ≡ Ok k → first (federate_checks p batch house) ≡ first routes
+  past-enclaves e f = past-own e ∙ first_past enclaves routes (answered (first enclaves) (federate_links p batch house) f).0
 
-        pub routes_refused : (q : Outcome) → q ≡ first routes → (q ≡ Passed → ⊥) → federate_numbers (refused_by q) ≡ packed_answer p batch house
-        unfolding packed_answer
-        routes_refused Passed d x = absurd (x refl)
-        routes_refused (Refused r) d x = rw (past-enclaves, ← d) refl
+  pub routes_refused : {k : ℕ} {r : Refusal} → first own ≡ passed → found ≡ Ok k → first routes ≡ Err r → federate_result p batch house ≡ Err r
+  unfolding federate_result
+  routes_refused e f g = rw (past-enclaves e f, g) refl
 
-        pub accepted : Passed ≡ first routes → 0 ∷ n ∷ k ∷ [] ≡ packed_answer p batch house
-        unfolding packed_answer
-        accepted d = rw (past-enclaves, ← d, count, found.1) refl
+  pub accepted : {k : ℕ} → first own ≡ passed → found ≡ Ok k → first routes ≡ passed → federate_result p batch house ≡ Ok (record { enclaves = enclaves_of p; links = k })
+  unfolding federate_result
+  accepted e f g = rw (past-enclaves e f, g, (answered (first enclaves) (federate_links p batch house) f).1) refl
+
+  -- the numbers of the answer for a pack that is packed, and for one that is not
+  numbers-of : (o : Outcome) (a : FederateAccepted) → federate_numbers (answer_of o a) ≡ unless o (0 ∷ a.enclaves ∷ a.links ∷ [])
+  numbers-of (Ok u) a = refl
+  numbers-of (Err r) a = refl
+
+  pub packing_refused : {r : Refusal} → first (packing_checks Federate p batch house) ≡ Err r → federate_answer p batch house ≡ numbers r
+  unfolding federate_answer
+  packing_refused e = rw e refl
+
+  pub packed_numbers : first (packing_checks Federate p batch house) ≡ passed → federate_answer p batch house ≡ federate_numbers (federate_result p batch house)
+  unfolding federate_answer packed_answer federate_result
+  packed_numbers e = rw e (sym (numbers-of (first (federate_checks p batch house)) (record { enclaves = enclaves_of p; links = federate_links p batch house })))

@@ -1,17 +1,17 @@
 -- The enclaves of a federate in turn (view.rs, `validate_federate_enclaves`). Assumes nothing.
-use Rattle.std.specs.Prelude.{ℕ, zero, suc, ◌+◌, ◌%◌, ◌^◌, cond, List, [], ◌++◌}
+use Rattle.std.specs.Prelude.{ℕ, zero, suc, ◌+◌, ◌%◌, ◌^◌, cond, List, [], ◌++◌, Result}
 use Rattle.identity.specs.Text.{identity_text}
 use Rattle.identity.specs.declared.IdentityPlace.{IdentityPlace}
+use Rattle.answers.specs.declared.Refusal.{Refusal}
 use Rattle.answers.specs.declared.id.IdKind.TheVariants as kind
-use Rattle.answers.specs.Checks.{Check, first, run}
+use Rattle.answers.specs.Checks.{Check, first, run, answer_of}
 use Rattle.schema.specs.Rows.{enclave_at}
 use Rattle.checks.specs.Image.{Image}
 use Rattle.checks.specs.Lists.{after_first}
 use Rattle.checks.specs.Identities.{id_order_checks}
 use Rattle.scope_checks.specs.Links.{links}
 use Rattle.enclave.specs.Passes.{enclave_checks}
-use Rattle.enclave.specs.declared.EnclaveAnswer.{EnclaveAnswer}
-use Rattle.enclave.specs.Answer.{answer_of, pack_image}
+use Rattle.enclave.specs.Answer.{pack_image}
 use Rattle.schema.specs.Records.{records_of, is_of}
 use Rattle.federate.specs.Records.{enclaves_before, enclave_before, enclave_pack}
 
@@ -42,9 +42,9 @@ links_before p batch house zero = 0
 links_before p batch house (suc n) = links_before p batch house n + cond (is_of p 1 n) (links (image_at p batch house n)) 0
 
 -- the answer of the enclave of record n, and of all enclaves with their summed links
-abbrev pub record_answer : List ℕ → List ℕ → List ℕ → ℕ → ℕ → EnclaveAnswer
+abbrev pub record_answer : List ℕ → List ℕ → List ℕ → ℕ → ℕ → Result ℕ Refusal
 record_answer p batch house start n = answer_of (first (record_checks p batch house start n)) (links (image_at p batch house n))
 
-abbrev pub enclaves_answer : List ℕ → List ℕ → List ℕ → ℕ → EnclaveAnswer
+abbrev pub enclaves_answer : List ℕ → List ℕ → List ℕ → ℕ → Result ℕ Refusal
 enclaves_answer p batch house start =
     answer_of (first (run (record_checks p batch house start) 0 (records_of p))) (links_before p batch house (records_of p))

@@ -36,6 +36,10 @@ metadata_checks text f =
 abbrev pub count_check : FederateImage → ℕ → Check
 count_check f enclaves = need (eqb enclaves f.enclaves.0.len) (OwnershipMismatch (row_field 0 0 field.Enclaves))
 
+-- the federate's own record, which has so many enclaves
+abbrev pub own_checks : (IdentityPlace → List ℕ) → FederateImage → ℕ → List Check
+own_checks text f enclaves = metadata_checks text f ++ (count_check f enclaves ∷ [])
+
 -- the federate, each enclave, each route
 unfoldable pub federate_checks : List ℕ → List ℕ → List ℕ → List Check
 federate_checks p batch house =

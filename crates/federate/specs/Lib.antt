@@ -1,4 +1,5 @@
 pub mod Records
+pub mod Walk
 pub mod Enclaves
 pub mod Federate
 pub mod Answer

@@ -1,19 +1,17 @@
 // The enclaves of a federate in turn: each one's own checks, then its identity against that of the one before.
-ghost use Rattle.std.specs.Prelude.{◌≡◌, ◌<◌, true};
+ghost use Rattle.std.specs.Prelude.{◌≡◌};
 ghost use Rattle.answers.specs.Checks.{first};
-ghost use Rattle.schema.specs.Records.{records_of, is_of};
 ghost use Rattle.enclave.specs.Answer.{image_result};
-ghost use Rattle.federate.specs.Records.{enclaves_before, enclave_before, enclave_end};
 ghost use Rattle.federate.specs.Enclaves.{index_from, image_at, order_checks, record_answer, enclaves_answer};
 
-use crate::records::{enclave_pack_to, next_enclave};
-use answers::{Outcome, kind};
+use crate::records::{Enclaves, FederateEnclave};
+use answers::{IdKind, Refusal, StableId};
 use checks::identities::validate_text_order;
-use enclave::EnclaveAnswer;
-use enclave::check::{check_image, refused};
-use identity::place::identity_text;
+use enclave::check::check_image;
+use identity::texts::Texts;
 use packing::starts::{enclave, table_starts};
-use schema::lent::{Pack, records_of};
+use schema::lent::Pack;
+use schema::row::Stored;
 use schema::rows::EnclaveImage;
 
 const KEYS: u64 = 0x1_0000_0000;
@@ -22,104 +20,55 @@ const KEYS: u64 = 0x1_0000_0000;
 fn index_from(start: u64, place: u32) -> u32
     ensures { result ≡ index_from start place }
 {
-    ((start % KEYS + place as u64) % KEYS) as u32
+    ((start % KEYS + u64::from(place)) % KEYS) as u32
 }
 
-// The answer of the enclave of record n, which ends at record `end`, by its own pack.
-#[tactic(auto, using(crate::proofs::Ends::part_some))]
-fn check_enclave_at(pack: Pack, batch: &[u8], house: &[u8], n: usize, end: usize) -> EnclaveAnswer
-    requires inside { n < records_of pack.bytes.now }
-    requires own { end ≡ enclave_end pack.bytes.now n }
-    ensures { result ≡ image_result (image_at pack.entry.bytes.now batch.now house.now n) }
-{
-    let own = enclave_pack_to(pack, n, end);
-    let starts = table_starts(own.bytes, 1);
-    check_image(enclave(own, &starts, batch, house))
-}
-
-// Its identity against that of the enclave before, at record `before`; nothing for the first.
-#[tactic(auto, unfolding(answers::specs::Checks::first))]
-fn check_order(
-    pack: Pack,
-    batch: &[u8],
-    house: &[u8],
-    start: u64,
-    n: usize,
-    place: u32,
-    before: usize,
-) -> Outcome
-    requires counted { place ≡ enclaves_before pack.bytes.now n }
-    requires last { before ≡ enclave_before pack.bytes.now n }
-    ensures { result ≡ first (order_checks pack.entry.bytes.now batch.now house.now start n) }
-{
-    if place == 0 {
-        return Outcome::Passed;
+impl<'a> FederateEnclave<'a> {
+    // The links of the enclave by its own pack, or the first fault.
+    #[tactic(auto, using(crate::proofs::Ends::part_some))]
+    fn check_own(self, texts: Texts) -> Result<u64, Refusal>
+        ensures { let t = texts.entry in result ≡ image_result (image_at self.entry.pack.bytes.now t.batch.now t.house.now self.entry.number) }
+    {
+        let own = self.own_pack();
+        let starts = table_starts(own.bytes, 1);
+        check_image(&enclave(own, &starts, texts))
     }
-    let id = EnclaveImage::at(pack, n).enclave_id;
-    let other = EnclaveImage::at(pack, before).enclave_id;
-    let text = identity_text(batch, house, id);
-    validate_text_order(
-        kind::ENCLAVE,
-        index_from(start, place),
-        id,
-        text,
-        identity_text(batch, house, other),
-    )
-}
 
-// The checks of the enclave of record n: its own, then its identity's.
-fn check_record(
-    pack: Pack,
-    batch: &[u8],
-    house: &[u8],
-    start: u64,
-    n: usize,
-    end: usize,
-    place: u32,
-    before: usize,
-) -> EnclaveAnswer
-    requires inside { n < records_of pack.bytes.now }
-    requires enclave { is_of pack.bytes.now 1 n ≡ true }
-    requires own { end ≡ enclave_end pack.bytes.now n }
-    requires counted { place ≡ enclaves_before pack.bytes.now n }
-    requires last { before ≡ enclave_before pack.bytes.now n }
-    ensures { result ≡ record_answer pack.entry.bytes.now batch.now house.now start n }
-{
-    let links = match check_enclave_at(pack, batch, house, n, end) {
-        EnclaveAnswer::Accepted { links } => links,
-        EnclaveAnswer::Refused(r) => return EnclaveAnswer::Refused(r),
-    };
-    let order = check_order(pack, batch, house, start, n, place, before);
-    let Outcome::Passed = order else {
-        return refused(order);
-    };
-    EnclaveAnswer::Accepted { links }
-}
-
-// Every enclave, with the links of all. From each the next one is where it ends.
-pub fn validate_federate_enclaves(
-    pack: Pack,
-    batch: &[u8],
-    house: &[u8],
-    start: u64,
-) -> EnclaveAnswer
-    ensures { result ≡ enclaves_answer pack.entry.bytes.now batch.now house.now start }
-{
-    let records = records_of(pack.bytes) as usize;
-    let mut links = 0u64;
-    let mut place = 0u32;
-    let mut before = 0usize;
-    let mut n = next_enclave(pack, 0);
-    while n < records {
-        let end = next_enclave(pack, n + 1);
-        let own = match check_record(pack, batch, house, start, n, end, place, before) {
-            EnclaveAnswer::Accepted { links } => links,
-            EnclaveAnswer::Refused(r) => return EnclaveAnswer::Refused(r),
+    // Its identity against that of the enclave before; nothing for the first.
+    #[tactic(auto, unfolding(answers::specs::Checks::first))]
+    fn check_order(self, texts: Texts, start: u64) -> Result<(), Refusal>
+        ensures { let t = texts.entry in result ≡ first (order_checks self.entry.pack.bytes.now t.batch.now t.house.now start self.entry.number) }
+    {
+        let Some(before) = self.before else {
+            return Ok(());
         };
-        links += own;
-        place += 1;
-        before = n;
-        n = end;
+        let other = EnclaveImage::at(self.pack, before).enclave_id;
+        let id = StableId {
+            kind: IdKind::Enclave,
+            index: index_from(start, self.place),
+            id: EnclaveImage::at(self.pack, self.number).enclave_id,
+        };
+        validate_text_order(id, texts.identity_text(id.id), texts.identity_text(other))
     }
-    EnclaveAnswer::Accepted { links }
+
+    // Its own checks, then its identity's.
+    fn check(self, texts: Texts, start: u64) -> Result<u64, Refusal>
+        ensures { let t = texts.entry in result ≡ record_answer self.entry.pack.bytes.now t.batch.now t.house.now start self.entry.number }
+    {
+        let links = self.check_own(texts)?;
+        self.check_order(texts, start)?;
+        Ok(links)
+    }
+}
+
+// Every enclave, with the links of all.
+#[tactic(auto, using(crate::proofs::EnclaveLaws::before_laws))]
+pub fn validate_federate_enclaves(pack: Pack, texts: Texts, start: u64) -> Result<u64, Refusal>
+    ensures { let t = texts.entry in result ≡ enclaves_answer pack.entry.bytes.now t.batch.now t.house.now start }
+{
+    let mut links = 0;
+    for enclave in Enclaves::of(pack) {
+        links += enclave.check(texts, start)?;
+    }
+    Ok(links)
 }

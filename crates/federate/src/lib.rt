@@ -5,12 +5,11 @@ pub mod check;
 pub mod enclaves;
 pub mod metadata;
 pub mod records;
+pub mod walk;
 
-use answers::Refusal;
-
-// What the check of a federate answers.
-#[derive(Clone, Copy)]
-pub enum FederateAnswer {
-    Accepted { enclaves: u32, links: u64 },
-    Refused(Refusal),
+// What the check of a federate accepts: so many enclaves, with the links of all.
+#[derive(Clone, Copy, Debug, PartialEq, Eq)]
+pub struct FederateAccepted {
+    pub enclaves: u32,
+    pub links: u64,
 }

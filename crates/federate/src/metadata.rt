@@ -1,17 +1,15 @@
 // The federate's own record: its identities, and its span of enclaves.
 #![tactic(auto, using(answers::proofs::Laws::list_laws), unfolding(answers::specs::Checks::first))]
 
-ghost use Rattle.std.specs.Prelude.{◌≡◌, [], ◌∷◌, ◌^◌};
-ghost use Rattle.range.specs.Range.{checked_end};
-ghost use Rattle.checks.specs.Refs.{end_within};
+ghost use Rattle.std.specs.Prelude.{◌≡◌, [], ◌∷◌};
 ghost use Rattle.identity.specs.Text.{identity_text};
 ghost use Rattle.answers.specs.Checks.{first};
 ghost use Rattle.federate.specs.Federate.{span_check, metadata_checks, count_check};
 
-use answers::{Outcome, Refusal, field, kind};
-use checks::identities::validate_text;
-use identity::place::identity_text;
-use range::{CheckedEnd, IndexSpan};
+use answers::{Field, IdKind, Refusal, RowField, StableId};
+use checks::identities::validate_id;
+use identity::texts::Texts;
+use schema::row::Row;
 use schema::rows::FederateImage;
 
 // The number that stands for the table of a federate's span: the keys of enclaves.
@@ -19,27 +17,23 @@ const ENCLAVE_KEYS: u8 = 255;
 
 const MAX_ENCLAVES: u64 = 0x1_0000_0000;
 
-// Whether the span ends, and not past the keys of enclaves.
-fn span_fits(span: IndexSpan) -> bool
-    ensures { result ≡ end_within (checked_end span.start span.len) (2 ^ 32) }
-{
-    match span.checked_end() {
-        CheckedEnd::End(end) => end <= MAX_ENCLAVES,
-        CheckedEnd::NoEnd => false,
-    }
-}
+// The span of enclaves.
+const SPAN: RowField = RowField {
+    table: FederateImage::TABLE,
+    index: 0,
+    field: Field::Enclaves,
+};
 
-fn check_span(federate: FederateImage) -> Outcome
+// The span ends, and not past the keys of enclaves.
+fn check_span(federate: FederateImage) -> Result<(), Refusal>
     ensures { result ≡ first (span_check federate ∷ []) }
 {
     let span = federate.enclaves.0;
-    if span_fits(span) {
-        return Outcome::Passed;
+    if span.checked_end().is_some_and(|end| end <= MAX_ENCLAVES) {
+        return Ok(());
     }
-    Outcome::Refused(Refusal::RangeOutOfBounds {
-        table: FederateImage::TABLE,
-        index: 0,
-        field: field::ENCLAVES,
+    Err(Refusal::RangeOutOfBounds {
+        at: SPAN,
         target: ENCLAVE_KEYS,
         start: span.start,
         len: span.len,
@@ -48,49 +42,22 @@ fn check_span(federate: FederateImage) -> Outcome
 
 // Id, target, runtime, span.
 #[tactic(auto, unfolding(answers::specs::Checks::first, crate::specs::Federate::metadata_checks))]
-pub fn validate_federate_metadata(batch: &[u8], house: &[u8], federate: FederateImage) -> Outcome
-    ensures { result ≡ first (metadata_checks (identity_text batch.now house.now) federate) }
+pub fn validate_federate_metadata(texts: Texts, federate: FederateImage) -> Result<(), Refusal>
+    ensures { let t = texts.entry in result ≡ first (metadata_checks (identity_text t.batch.now t.house.now) federate) }
 {
-    let id = validate_text(
-        kind::FEDERATE,
-        0,
-        federate.id,
-        identity_text(batch, house, federate.id),
-    );
-    let Outcome::Passed = id else {
-        return id;
-    };
-    let target = validate_text(
-        kind::TARGET,
-        0,
-        federate.target,
-        identity_text(batch, house, federate.target),
-    );
-    let Outcome::Passed = target else {
-        return target;
-    };
-    let runtime = validate_text(
-        kind::RUNTIME,
-        0,
-        federate.runtime,
-        identity_text(batch, house, federate.runtime),
-    );
-    let Outcome::Passed = runtime else {
-        return runtime;
-    };
+    let own = |kind, id| StableId { kind, index: 0, id };
+    validate_id(texts, own(IdKind::Federate, federate.id))?;
+    validate_id(texts, own(IdKind::Target, federate.target))?;
+    validate_id(texts, own(IdKind::Runtime, federate.runtime))?;
     check_span(federate)
 }
 
 // As many enclaves as the span has.
-pub fn check_enclave_count(federate: FederateImage, enclaves: u32) -> Outcome
+pub fn check_enclave_count(federate: FederateImage, enclaves: u32) -> Result<(), Refusal>
     ensures { result ≡ first (count_check federate enclaves ∷ []) }
 {
-    if enclaves as u64 == federate.enclaves.0.len {
-        return Outcome::Passed;
+    if u64::from(enclaves) == federate.enclaves.0.len {
+        return Ok(());
     }
-    Outcome::Refused(Refusal::OwnershipMismatch {
-        table: FederateImage::TABLE,
-        index: 0,
-        field: field::ENCLAVES,
-    })
+    Err(Refusal::OwnershipMismatch { at: SPAN })
 }

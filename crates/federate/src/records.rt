@@ -1,9 +1,10 @@
-// The enclaves of a federate pack: how many there are, and the pack of each.
-ghost use Rattle.std.specs.Prelude.{◌≡◌, ◌-◌, ◌<◌, ◌≤◌};
-ghost use Rattle.schema.specs.Records.{records_of};
-ghost use Rattle.federate.specs.Records.{enclaves_of, enclave_from, enclave_end, enclave_pack};
+// The enclaves of a federate pack: how many there are, each of them, and where a walk over them stands.
+ghost use Rattle.std.specs.Prelude.{◌≡◌, ◌-◌, ◌<◌, ◌≤◌, true};
+ghost use Rattle.schema.specs.Records.{records_of, is_of};
+ghost use Rattle.federate.specs.Records.{enclaves_of, enclaves_before, last_before, enclave_from, enclave_end, enclave_pack};
 
 use schema::lent::{Pack, records_of};
+use schema::row::Row;
 use schema::rows::EnclaveImage;
 
 pub fn count_enclaves(pack: Pack) -> u32
@@ -13,34 +14,68 @@ pub fn count_enclaves(pack: Pack) -> u32
 }
 
 // The first enclave's record from n on; where there is none, the number of records, or n past it.
-#[tactic(auto, using(crate::proofs::Ends::from_laws))]
+#[tactic(auto, using(crate::proofs::Ends::searched))]
 pub fn next_enclave(pack: Pack, n: usize) -> usize
     ensures { let p = pack.entry.bytes.now in result ≡ enclave_from p n (records_of p - n) }
 {
     let records = records_of(pack.bytes) as usize;
-    let mut k = n;
-    while k < records && !pack.is_of(EnclaveImage::TABLE, k) {
-        k += 1;
-    }
-    k
+    (n..records)
+        .find(|k| pack.is_of(EnclaveImage::TABLE, *k))
+        .unwrap_or(records.max(n))
 }
 
-// The pack of the enclave of record n, which ends at record `end`.
-#[tactic(auto, using(crate::proofs::Ends::part_laws))]
-pub fn enclave_pack_to<'a>(pack: Pack<'a>, n: usize, end: usize) -> Pack<'a>
-    requires inside { n < records_of pack.bytes.now }
-    requires own { end ≡ enclave_end pack.bytes.now n }
-    ensures { result.bytes.now ≡ enclave_pack pack.entry.bytes.now n }
-{
-    Pack {
-        bytes: &pack.bytes[n * 64..end * 64],
+// An enclave of a federate pack: its record and the one where it ends, its place among the enclaves, and the record of the enclave before it.
+#[derive(Clone, Copy)]
+pub struct FederateEnclave<'a> {
+    pub pack: Pack<'a>,
+    pub number: usize,
+    pub end: usize,
+    pub place: u32,
+    pub before: Option<usize>,
+    ghost inside: { number < records_of pack.bytes.now },
+    ghost enclave: { is_of pack.bytes.now 1 number ≡ true },
+    ghost own: { end ≡ enclave_end pack.bytes.now number },
+    ghost counted: { place ≡ enclaves_before pack.bytes.now number },
+    ghost last: { before ≡ last_before pack.bytes.now number },
+}
+
+impl<'a> FederateEnclave<'a> {
+    // Its pack: its records up to its end.
+    #[tactic(auto, using(crate::proofs::Ends::part_laws))]
+    pub fn own_pack(self) -> Pack<'a>
+        ensures { result.bytes.now ≡ enclave_pack self.entry.pack.bytes.now self.entry.number }
+    {
+        Pack {
+            bytes: &self.pack.bytes[self.number * 64..self.end * 64],
+        }
     }
 }
 
-// The pack of the enclave of record n: its records up to its end.
-pub fn enclave_pack<'a>(pack: Pack<'a>, n: usize) -> Pack<'a>
-    requires { n < records_of pack.bytes.now }
-    ensures { result.bytes.now ≡ enclave_pack pack.entry.bytes.now n }
-{
-    enclave_pack_to(pack, n, next_enclave(pack, n + 1))
+// The enclaves of a pack from one record on, with how many there are before it, and the last of these.
+#[derive(Clone, Copy)]
+pub struct Enclaves<'a> {
+    pub pack: Pack<'a>,
+    pub next: usize,
+    pub place: u32,
+    pub before: Option<usize>,
+    ghost within: { next ≤ records_of pack.bytes.now },
+    ghost enclave: { next < records_of pack.bytes.now → is_of pack.bytes.now 1 next ≡ true },
+    ghost counted: { place ≡ enclaves_before pack.bytes.now next },
+    ghost last: { before ≡ last_before pack.bytes.now next },
+}
+
+impl<'a> Enclaves<'a> {
+    // All of them.
+    #[tactic(auto, using(crate::proofs::Gaps::walk_laws))]
+    pub fn of(pack: Pack<'a>) -> Enclaves<'a>
+        ensures pack { result.pack ≡ pack.entry }
+        ensures first { let p = pack.entry.bytes.now in result.next ≡ enclave_from p 0 (records_of p) }
+    {
+        Enclaves {
+            pack,
+            next: next_enclave(pack, 0),
+            place: 0,
+            before: None,
+        }
+    }
 }

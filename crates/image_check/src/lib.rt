@@ -1,43 +1,27 @@
 // Both checks as a host in another language asks them: the answer as document 01's numbers, in eight numbers that the host lends.
-#![tactic(auto, using(crate::proofs::Filled::filled_refusal, crate::proofs::Filled::few_numbers))]
+#![tactic(auto)]
 
-ghost use Rattle.enclave.specs.Answer.{answer_numbers, enclave_answer};
-ghost use Rattle.federate.specs.Answer.{federate_numbers, federate_answer};
+ghost use Rattle.std.specs.Prelude.{◌≤◌, length};
+ghost use Rattle.enclave.specs.Answer.{enclave_answer};
+ghost use Rattle.federate.specs.Answer.{federate_answer};
 ghost use Rattle.image_check.specs.Answered.{Answered};
 
-use answers::NumberList;
-use enclave::EnclaveAnswer;
 use enclave::check::check_enclave;
-use federate::FederateAnswer;
+use federate::FederateAccepted;
 use federate::check::check_federate;
 
-// 0 and the links, or the refusal's numbers.
-fn enclave_numbers(answer: EnclaveAnswer) -> NumberList
-    ensures { Answered (answer_numbers answer) result.len result.values }
+// Writes the numbers of an answer into those that the host lends, zeros after them, and answers how many it has.
+// Numbers and a count: the host is C, which has no slices and no enums with fields.
+fn put(answer: &[u64], numbers: &mut [u64; 8]) -> u32
+    requires { length answer.now ≤ 8 }
+    ensures { Answered answer.now result numbers.new }
 {
-    match answer {
-        EnclaveAnswer::Accepted { links } => NumberList {
-            len: 2,
-            values: [0, links, 0, 0, 0, 0, 0, 0],
-        },
-        EnclaveAnswer::Refused(refusal) => answers::numbers(refusal),
-    }
+    *numbers = [0; 8];
+    numbers[..answer.len()].copy_from_slice(answer);
+    answer.len() as u32
 }
 
-// 0, the enclaves and the links, or the refusal's numbers.
-fn federate_numbers(answer: FederateAnswer) -> NumberList
-    ensures { Answered (federate_numbers answer) result.len result.values }
-{
-    match answer {
-        FederateAnswer::Accepted { enclaves, links } => NumberList {
-            len: 3,
-            values: [0, enclaves as u64, links, 0, 0, 0, 0, 0],
-        },
-        FederateAnswer::Refused(refusal) => answers::numbers(refusal),
-    }
-}
-
-// The answer for an enclave pack and its two texts; the result is how many of `numbers` hold it.
+// The answer for an enclave pack and its two texts: 0 and the links, or the refusal's numbers. The result is how many of `numbers` hold it.
 pub fn check_enclave_image<'a>(
     pack: &'a [u8],
     batch: &'a [u8],
@@ -46,13 +30,13 @@ pub fn check_enclave_image<'a>(
 ) -> u32
     ensures { Answered (enclave_answer pack.now batch.now house.now) result numbers.new }
 {
-    let list = enclave_numbers(check_enclave(pack, batch, house));
-    let values = list.values;
-    *numbers = values;
-    list.len as u32
+    match check_enclave(pack, batch, house) {
+        Ok(links) => put(&[0, links], numbers),
+        Err(refusal) => put(refusal.numbers().as_slice(), numbers),
+    }
 }
 
-// The answer for a federate pack and its two texts; the result is how many of `numbers` hold it.
+// The answer for a federate pack and its two texts: 0, the stations and the links, or the refusal's numbers. The result is how many of `numbers` hold it.
 pub fn check_federate_image<'a>(
     pack: &'a [u8],
     batch: &'a [u8],
@@ -61,8 +45,8 @@ pub fn check_federate_image<'a>(
 ) -> u32
     ensures { Answered (federate_answer pack.now batch.now house.now) result numbers.new }
 {
-    let list = federate_numbers(check_federate(pack, batch, house));
-    let values = list.values;
-    *numbers = values;
-    list.len as u32
+    match check_federate(pack, batch, house) {
+        Ok(FederateAccepted { enclaves, links }) => put(&[0, u64::from(enclaves), links], numbers),
+        Err(refusal) => put(refusal.numbers().as_slice(), numbers),
+    }
 }

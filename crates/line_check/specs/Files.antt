@@ -1,47 +1,35 @@
 -- What reading three files comes to. Assumes nothing.
-use Rattle.std.specs.Prelude.{ℕ, ◌≤◌, Bool, true, false, ◌||◌, cond, nat_lt, nat_le, Option, Some, None, if◌then◌else◌}
-use Rattle.line_check.specs.declared.files.FileRead.{FileRead}
-use Rattle.line_check.specs.declared.files.FileRead.TheVariants as file
-use Rattle.line_check.specs.declared.files.Files.{Files}
-use Rattle.line_check.specs.declared.files.Files.TheVariants as files
+use Rattle.std.specs.Prelude.{ℕ, List, Bool, true, false, ◌||◌, cond, nat_lt, nat_le, Option, Some, None, Result, Ok, Err, codes, take, if◌then◌else◌}
+use Rattle.line_check.specs.declared.image.File.{File}
+use Rattle.line_check.specs.declared.image.LineImage.{LineImage}
+use Rattle.line_check.specs.declared.files.FileError.{FileError}
+use Rattle.line_check.specs.declared.files.FileError.TheVariants.{NoFile, TooLong}
 
-abbrev pub bytes_read : FileRead → ℕ
-bytes_read (file.Read n) = n
-bytes_read file.NoFile = 0
-bytes_read file.TooLong = 0
-
-abbrev pub is_missing : FileRead → Bool
-is_missing (file.Read n) = false
-is_missing file.NoFile = true
-is_missing file.TooLong = false
-
-abbrev pub is_too_long : FileRead → Bool
-is_too_long (file.Read n) = false
-is_too_long file.NoFile = false
-is_too_long file.TooLong = true
+abbrev pub error_text : FileError → List ℕ
+error_text NoFile = codes "no file"
+error_text TooLong = codes "too long"
 
 -- a file of which so many bytes were read into a room of k bytes: too long where there are more than 65,536, or where the room is full and more may be there; None stands for one that cannot be read
-abbrev pub file_of : Option ℕ → ℕ → FileRead
-file_of (Some n) k = if nat_lt 65536 n || nat_le k n then file.TooLong else file.Read n
-file_of None k = file.NoFile
+abbrev pub file_of : Option ℕ → ℕ → Result ℕ FileError
+file_of (Some n) k = if nat_lt 65536 n || nat_le k n then Err TooLong else Ok n
+file_of None k = Err NoFile
 
--- what was read lies in room for k bytes
-abbrev pub Within : FileRead → ℕ → Type 0
-Within f k = bytes_read f ≤ k
+abbrev pub file_bytes : File → List ℕ
+file_bytes file = take file.len file.room
+
+abbrev pub is_missing : {A : Type 0} → Result A FileError → Bool
+is_missing (Ok file) = false
+is_missing (Err NoFile) = true
+is_missing (Err TooLong) = false
+
+-- three files of which none is missing: `too long` if one is longer
+abbrev pub all_read : Result File FileError → Result File FileError → Result File FileError → Result LineImage FileError
+all_read (Ok pack) (Ok batch) (Ok house) = Ok (record { pack = pack; batch = batch; house = house })
+all_read (Ok pack) (Ok batch) (Err e) = Err TooLong
+all_read (Ok pack) (Err e) house = Err TooLong
+all_read (Err e) batch house = Err TooLong
 
 -- `no file` if a file cannot be read; else `too long` if one is longer
-abbrev pub together : FileRead → FileRead → FileRead → Files
+abbrev pub together : Result File FileError → Result File FileError → Result File FileError → Result LineImage FileError
 together pack batch house =
-    cond
-    (is_missing pack || (is_missing batch || is_missing house))
-    files.NoFile
-    (cond
-    (is_too_long pack || (is_too_long batch || is_too_long house))
-    files.TooLong
-    (files.Read (bytes_read pack) (bytes_read batch) (bytes_read house)))
-
--- the bytes read of three files lie in their rooms
-abbrev pub Inside : Files → ℕ → ℕ → ℕ → Type 0
-Inside (files.Read p b h) pack batch house = (p ≤ pack) × ((b ≤ batch) × (h ≤ house))
-Inside files.NoFile pack batch house = Unit {0}
-Inside files.TooLong pack batch house = Unit {0}
+    cond (is_missing pack || (is_missing batch || is_missing house)) (Err NoFile) (all_read pack batch house)

@@ -1,8 +1,10 @@
 -- The line that the program prints, in bytes. Assumes nothing.
-use Rattle.std.specs.Prelude.{ℕ, zero, suc, List, [], ◌∷◌, ◌++◌, take, codes, decimal}
+use Rattle.std.specs.Prelude.{ℕ, zero, suc, List, [], ◌∷◌, ◌++◌, Result, Ok, Err, codes, decimal}
 use Rattle.federate.specs.Answer.{federate_answer}
-use Rattle.line_check.specs.declared.files.Files.{Files}
-use Rattle.line_check.specs.declared.files.Files.TheVariants as files
+use Rattle.line_check.specs.declared.image.LineImage.{LineImage}
+use Rattle.line_check.specs.declared.files.FileError.{FileError}
+use Rattle.line_check.specs.declared.files.FileError.TheVariants.{NoFile, TooLong}
+use Rattle.line_check.specs.Files.{file_bytes}
 
 -- a blank and a number, without zeros in front
 abbrev pub number_text : ℕ → List ℕ
@@ -23,8 +25,8 @@ answer_line [] = line (codes "refused") []
 answer_line (zero ∷ ns) = line (codes "accepted") ns
 answer_line (suc k ∷ ns) = line (codes "refused") (suc k ∷ ns)
 
--- the line for what was read into three rooms
-unfoldable pub file_line : Files → List ℕ → List ℕ → List ℕ → List ℕ
-file_line files.NoFile pack batch house = codes "no file\n"
-file_line files.TooLong pack batch house = codes "too long\n"
-file_line (files.Read p b h) pack batch house = answer_line (federate_answer (take p pack) (take b batch) (take h house))
+-- the line for what was read
+abbrev pub file_line : Result LineImage FileError → List ℕ
+file_line (Err NoFile) = codes "no file\n"
+file_line (Err TooLong) = codes "too long\n"
+file_line (Ok image) = answer_line (federate_answer (file_bytes image.pack) (file_bytes image.batch) (file_bytes image.house))

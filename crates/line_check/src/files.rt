@@ -1,36 +1,40 @@
 // Reading the files of a line image, and what three such reads come to.
-ghost use Rattle.std.specs.Prelude.{◌≡◌, ◌≤◌, length, IfOk, IfSome};
-ghost use Rattle.line_check.specs.Files.{bytes_read, is_missing, is_too_long, file_of, Within, together};
+ghost use Rattle.std.specs.Prelude.{◌≡◌, ◌≤◌, length, Some, IfOk, IfSome};
+ghost use Rattle.line_check.specs.Files.{error_text, file_of, together};
 
+use crate::image::{File, LIMIT, LineImage, ROOM};
+use FileError::{NoFile, TooLong};
+use std::error::Error;
 use std::io::Read;
-use std::{fs, io, rt, str};
+use std::{fmt, fs, io, rt, str};
 
-// The most bytes that a file of a line image may have.
-const LIMIT: usize = 65_536;
-
-// Room for one more, by which a longer file is told.
-pub const ROOM: usize = LIMIT + 1;
-
-// What reading one file came to.
-#[derive(Clone, Copy)]
-pub enum FileRead {
-    // So many bytes of the file stand at the room's start, and the file ends there.
-    Read(usize),
+// Why a file is not checked.
+#[derive(Clone, Copy, Debug, PartialEq, Eq)]
+pub enum FileError {
     NoFile,
     TooLong,
 }
 
-// What reading the three files came to.
-#[derive(Clone, Copy)]
-pub enum Files {
-    Read {
-        pack: usize,
-        batch: usize,
-        house: usize,
-    },
-    NoFile,
-    TooLong,
+impl FileError {
+    pub fn text(self) -> &'static str
+        ensures { result.now ≡ error_text self }
+    {
+        match self {
+            NoFile => "no file",
+            TooLong => "too long",
+        }
+    }
 }
+
+impl fmt::Display for FileError {
+    ghost output = { λ e. Some (error_text e) };
+
+    fn fmt<W: fmt::Write>(&self, f: &mut fmt::Formatter<W>) -> fmt::Result {
+        f.write_str(self.text())
+    }
+}
+
+impl Error for FileError {}
 
 // Reads until the file ends or the room is full, and answers how many bytes stand in the room.
 fn fill<R: Read>(reader: &mut R, room: &mut [u8]) -> io::Result<usize>
@@ -52,65 +56,39 @@ fn read_room<R: rt::Files>(rt: &R, path: &[u8], room: &mut [u8]) -> Option<usize
     ensures { IfSome result (λ n. n ≤ length room.new) }
 {
     let path = str::from_utf8(path).ok()?;
-    match fs::open(rt, path) {
-        Ok(mut file) => fill(&mut file, room).ok(),
-        Err(_) => None,
-    }
+    let mut file = fs::open(rt, path).ok()?;
+    fill(&mut file, room).ok()
 }
 
-// What a file came to of which so many bytes stand in a room of this length: one that fills it may go on.
-fn file_of(read: Option<usize>, room: usize) -> FileRead
+// How long a file is of which so many bytes stand in a room of this length: one that fills it may go on.
+fn file_of(read: Option<usize>, room: usize) -> Result<usize, FileError>
     ensures { result ≡ file_of read room }
 {
     match read {
-        Some(n) if LIMIT < n || room <= n => FileRead::TooLong,
-        Some(n) => FileRead::Read(n),
-        None => FileRead::NoFile,
+        Some(n) if LIMIT < n || room <= n => Err(TooLong),
+        Some(n) => Ok(n),
+        None => Err(NoFile),
     }
 }
 
-// Reads the file of that name into the room, which has a byte more than the longest file that fits.
-pub fn read_file<R: rt::Files>(rt: &R, path: &[u8], room: &mut [u8]) -> FileRead
-    ensures { Within result (length room.new) }
-{
-    let read = read_room(rt, path, room);
-    file_of(read, room.len())
-}
-
-fn bytes_read(file: FileRead) -> usize
-    ensures { result ≡ bytes_read file }
-{
-    match file {
-        FileRead::Read(n) => n,
-        _ => 0,
-    }
-}
-
-fn is_missing(file: FileRead) -> bool
-    ensures { result ≡ is_missing file }
-{
-    matches!(file, FileRead::NoFile)
-}
-
-fn is_too_long(file: FileRead) -> bool
-    ensures { result ≡ is_too_long file }
-{
-    matches!(file, FileRead::TooLong)
+// Reads the file of that name into a room that has a byte more than the longest file that fits.
+pub fn read_file<R: rt::Files>(rt: &R, path: &[u8]) -> Result<File, FileError> {
+    let mut room = [0u8; ROOM];
+    let len = file_of(read_room(rt, path, &mut room), ROOM)?;
+    Ok(File { room, len })
 }
 
 // A file that is missing decides before one that is too long.
-pub fn together(pack: FileRead, batch: FileRead, house: FileRead) -> Files
+pub fn together(
+    pack: Result<File, FileError>,
+    batch: Result<File, FileError>,
+    house: Result<File, FileError>,
+) -> Result<LineImage, FileError>
     ensures { result ≡ together pack batch house }
 {
-    if is_missing(pack) || is_missing(batch) || is_missing(house) {
-        return Files::NoFile;
-    }
-    if is_too_long(pack) || is_too_long(batch) || is_too_long(house) {
-        return Files::TooLong;
-    }
-    Files::Read {
-        pack: bytes_read(pack),
-        batch: bytes_read(batch),
-        house: bytes_read(house),
+    match (pack, batch, house) {
+        (Ok(pack), Ok(batch), Ok(house)) => Ok(LineImage { pack, batch, house }),
+        (Err(NoFile), _, _) | (_, Err(NoFile), _) | (_, _, Err(NoFile)) => Err(NoFile),
+        _ => Err(TooLong),
     }
 }

@@ -2,9 +2,11 @@
 #![tactic(auto)]
 
 mod files;
+mod image;
 mod line;
 
-use files::ROOM;
+use files::{read_file, together};
+use line::file_line;
 use std::io::Write;
 use std::{io, rt};
 
@@ -15,16 +17,11 @@ pub fn check_files<R: rt::Files + Print>(
     batch_name: &[u8],
     house_name: &[u8],
 ) -> io::Result<()> {
-    let mut pack = [0u8; ROOM];
-    let mut batch = [0u8; ROOM];
-    let mut house = [0u8; ROOM];
-    let pack_read = files::read_file(rt, pack_name, &mut pack);
-    let batch_read = files::read_file(rt, batch_name, &mut batch);
-    let house_read = files::read_file(rt, house_name, &mut house);
-    let files = files::together(pack_read, batch_read, house_read);
-    let mut out = [0u8; 192];
-    let n = line::put_line(&mut out, files, &pack, &batch, &house);
-    io::writer(rt).write_all(&out[..n])
+    let pack = read_file(rt, pack_name);
+    let batch = read_file(rt, batch_name);
+    let house = read_file(rt, house_name);
+    let line = file_line(together(pack, batch, house));
+    io::writer(rt).write_all(line.as_bytes())
 }
 
 // The line image in the current directory.

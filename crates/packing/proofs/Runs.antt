@@ -1,6 +1,6 @@
 -- Runs of clean records of one table. Assumes nothing.
-use Rattle.std.proofs.Common.{ℕ, zero, suc, ◌+◌, ◌-◌, ◌/◌, ◌<◌, ◌≤◌, Bool, true, false, ◌&&◌, ◌≡◌, refl, ◌∙◌, sym, List, ltb, eqb, length, add-one, add-zero, arith}
-use borrow.Author.Tests.{eqb-true, le-leb, ltb-true, ne_eqb}
+use Rattle.std.proofs.Common.{ℕ, zero, suc, ◌+◌, ◌-◌, ◌/◌, ◌<◌, ◌≤◌, Bool, true, false, ◌&&◌, ◌≡◌, refl, ◌∙◌, sym, List, ltb, eqb, length, add-zero, arith}
+use borrow.Author.Tests.{eqb-true, le-leb, ne_eqb}
 use Rattle.answers.specs.Checks.{Check, first, run, passed}
 use Rattle.answers.proofs.Loops.{Remaining, run_next}
 use Rattle.answers.proofs.Laws.{first_past}

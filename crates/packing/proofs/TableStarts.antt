@@ -17,7 +17,7 @@ use Rattle.identity.proofs.Tests.{cases}
 use Rattle.schema.specs.Bytes.{byte_of}
 use Rattle.schema.specs.Tables.{IsRising, EndsInside}
 use Rattle.schema.specs.Records.{records_of}
-use Rattle.schema.proofs.Counts.{records_inside, records_few}
+use Rattle.schema.proofs.Counts.{records_inside}
 use Rattle.packing.proofs.Records.{some_record}
 use Rattle.packing.specs.Starts.{reaches, first_reaching, table_start, starts_below, table_starts}
 

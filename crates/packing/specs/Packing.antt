@@ -1,5 +1,5 @@
 -- The packing rules in their order (document 01, "The pack" and "Packing"). Assumes nothing.
-use Rattle.std.specs.Prelude.{ℕ, zero, suc, ◌*◌, ◌/◌, ◌%◌, ◌<◌, ◌≤◌, Bool, ◌&&◌, ◌||◌, ◌≡◌, List, [], ◌∷◌, ltb, leb, eqb, false, true, length, Result, Ok, Err}
+use Rattle.std.specs.Prelude.{ℕ, zero, suc, ◌*◌, ◌/◌, ◌%◌, Bool, ◌&&◌, ◌||◌, List, [], ◌∷◌, ltb, leb, eqb, false, true, length, Result, Ok, Err}
 use Rattle.identity.specs.declared.IdentityPlace.{IdentityPlace}
 use Rattle.identity.specs.Utf8.{utf8}
 use Rattle.identity.specs.Text.{place_inside, identity_text}

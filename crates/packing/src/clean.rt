@@ -5,7 +5,7 @@ ghost use Rattle.packing.specs.Clean.{zeros, fields_clean, timing_clean, kind_cl
 ghost use Rattle.packing.specs.Runs.{CleanRun};
 ghost use Rattle.packing.specs.Shape.{layout_of, shape_of};
 
-use crate::shape::{Governed, Shape, shape_of};
+use crate::shape::{Governed, Shape};
 use schema::lent::Pack;
 use schema::record::Record;
 use schema::row::Row;
@@ -70,35 +70,38 @@ fn timing_clean(item: Record) -> bool
 }
 
 // What is asked of actions and reactions beside their fields.
-fn kind_clean(item: Record) -> bool
-    ensures { let p = item.entry.bytes.now in let n = item.entry.number in result ≡ kind_clean (byte_of p n 0) p n }
+fn kind_clean(item: Record, table: u8) -> bool
+    ensures { result ≡ kind_clean table item.entry.bytes.now item.entry.number }
 {
-    match item.table() {
+    match table {
         ActionImage::TABLE => timing_clean(item),
         ReactionImage::TABLE => item.has(1) || item.byte(2) == 0,
         _ => true,
     }
 }
 
-// Whether a record is clean.
+// Whether a record of `table`, whose shape it is, is clean.
 #[tactic(auto, using(crate::proofs::Tables::table_laws, crate::proofs::Runs::clean_parts))]
 #[inline(always)]
-pub fn clean(item: Record) -> bool
+pub fn clean(item: Record, table: u8, shape: Shape) -> bool
+    requires own { table ≡ byte_of item.bytes.now item.number 0 }
+    requires shaped { shape ≡ shape_of table }
     ensures { result ≡ clean item.entry.bytes.now item.entry.number }
 {
-    let shape = shape_of(item.table());
-    rest_zero(item, shape.used) & fields_clean(item, shape) & kind_clean(item)
+    rest_zero(item, shape.used) & fields_clean(item, shape) & kind_clean(item, table)
 }
 
-// The first record from n on that is not a clean one of `table`, or the pack's end.
+// The first record from n on that is not a clean one of `table`, whose shape it is, or the pack's end.
+// The two stand side by side: a shape found for each record takes half again as long, a struct of the two a sixth more.
 #[tactic(auto, using(crate::proofs::Runs::clean_run_laws))]
-pub fn past_clean(pack: Pack, n: usize, table: u8) -> usize
-    requires { n ≤ length pack.bytes.now / 64 }
+pub fn past_clean(pack: Pack, n: usize, table: u8, shape: Shape) -> usize
+    requires from { n ≤ length pack.bytes.now / 64 }
+    requires shaped { shape ≡ shape_of table }
     ensures { let p = pack.entry.bytes.now in CleanRun p table n (length p / 64) result }
 {
     let mut k = n;
     while let Some(record) = pack.record(k) {
-        if record.table() != table || !clean(record) {
+        if record.table() != table || !clean(record, table, shape) {
             return k;
         }
         k += 1;

@@ -2,12 +2,12 @@
 ghost use Rattle.std.specs.Prelude.{◌≡◌, ◌/◌, ◌<◌, ◌≤◌, length, IfOk};
 ghost use Rattle.answers.specs.Checks.{first, run};
 ghost use Rattle.schema.specs.Bytes.{byte_of};
-ghost use Rattle.packing.specs.Shape.{layout_of};
+ghost use Rattle.packing.specs.Shape.{layout_of, shape_of};
 ghost use Rattle.packing.specs.Packing.{row_after, first_table, table_after, in_place, identity_at, identity_checks, record_checks, packing_checks, pack_outcome};
 
 use crate::PackKind;
 use crate::clean::{clean, past_clean};
-use crate::shape::shape_of;
+use crate::shape::{Shape, shape_of};
 use crate::walker::RecordWalker;
 use answers::Refusal;
 use identity::IdentityPlace;
@@ -107,21 +107,23 @@ impl<'a> Named<'a> {
         Ok(())
     }
 
-    // The checks of the record's identities, in field order.
+    // The checks of the record's identities, `count` of them, in field order.
     #[tactic(auto, using(answers::proofs::Loops::run_laws))]
-    fn check_identities(self) -> Result<(), Refusal>
+    fn check_identities(self, count: u8) -> Result<(), Refusal>
+        requires { count ≡ (layout_of (byte_of self.item.bytes.now self.item.number 0)).identities }
         ensures { let r = self.entry.item in let t = self.entry.texts in let p = r.bytes.now
-            in result ≡ first (run (identity_checks p t.batch.now t.house.now r.number) 0 (layout_of (byte_of p r.number 0)).identities) }
+            in result ≡ first (run (identity_checks p t.batch.now t.house.now r.number) 0 count) }
     {
-        for j in 0..shape_of(self.item.table()).identities {
+        for j in 0..count {
             self.check_identity(j)?;
         }
         Ok(())
     }
 
-    // The checks of the record, in a pack of that kind.
+    // The checks of the record, by the shape of its table, in a pack of that kind.
     #[tactic(auto, unfolding(answers::specs::Checks::first, crate::specs::Packing::record_checks))]
-    fn check(self, kind: PackKind) -> Result<(), Refusal>
+    fn check(self, kind: PackKind, shape: Shape) -> Result<(), Refusal>
+        requires { shape ≡ shape_of (byte_of self.item.bytes.now self.item.number 0) }
         ensures { let r = self.entry.item in let t = self.entry.texts in result ≡ first (record_checks kind r.bytes.now t.batch.now t.house.now r.number) }
     {
         if !in_place(kind, self.item) {
@@ -129,12 +131,12 @@ impl<'a> Named<'a> {
                 record: self.number(),
             });
         }
-        if !clean(self.item) {
+        if !clean(self.item, self.item.table(), shape) {
             return Err(Refusal::StrayByte {
                 record: self.number(),
             });
         }
-        self.check_identities()
+        self.check_identities(shape.identities)
     }
 }
 
@@ -147,10 +149,11 @@ fn check_records(kind: PackKind, pack: Pack, texts: Texts) -> Result<(), Refusal
 {
     let mut walker = RecordWalker { pack, place: 0 };
     while let Some(item) = walker.next() {
-        Named { item, texts }.check(kind)?;
         let table = item.table();
-        if shape_of(table).identities == 0 {
-            walker.place = past_clean(pack, walker.place, table);
+        let shape = shape_of(table);
+        Named { item, texts }.check(kind, shape)?;
+        if shape.identities == 0 {
+            walker.place = past_clean(pack, walker.place, table, shape);
         }
     }
     Ok(())
@@ -158,11 +161,7 @@ fn check_records(kind: PackKind, pack: Pack, texts: Texts) -> Result<(), Refusal
 
 // The pack of these bytes, where it passes the packing rules over its two texts.
 #[tactic(auto, unfolding(answers::specs::Checks::first, crate::specs::Packing::packing_checks))]
-pub fn checked_pack<'a>(
-    kind: PackKind,
-    bytes: &'a [u8],
-    texts: Texts,
-) -> Result<Pack<'a>, Refusal>
+pub fn checked_pack<'a>(kind: PackKind, bytes: &'a [u8], texts: Texts) -> Result<Pack<'a>, Refusal>
     ensures outcome { pack_outcome result ≡ first (packing_checks kind bytes.now texts.entry.batch.now texts.entry.house.now) }
     ensures lent { IfOk result (λ pack. pack.bytes.now ≡ bytes.now) }
     ensures some { IfOk result (λ pack. 0 < length pack.bytes.now) }
@@ -184,12 +183,7 @@ pub fn checked_pack<'a>(
 }
 
 // The packing rules of a pack over its two texts.
-pub fn check_packing(
-    kind: PackKind,
-    pack: &[u8],
-    batch: &[u8],
-    house: &[u8],
-) -> Result<(), Refusal>
+pub fn check_packing(kind: PackKind, pack: &[u8], batch: &[u8], house: &[u8]) -> Result<(), Refusal>
     ensures { result ≡ first (packing_checks kind pack.now batch.now house.now) }
 {
     checked_pack(kind, pack, Texts { batch, house })?;

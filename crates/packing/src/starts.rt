@@ -31,7 +31,6 @@ fn first_reaching(p: &[u8], t: usize, from: u32) -> u32
 }
 
 // The starts of the tables in the enclave whose rows start at record `rows`.
-#[tactic(auto, using(crate::proofs::TableStarts::starts_rising))]
 pub fn table_starts(p: &[u8], rows: u32) -> TableStarts
     ensures { result.firsts ≡ table_starts p.now rows }
 {

@@ -1,39 +1,37 @@
-// The answer of a case.
+// The answer of a case, and how it is printed.
+use crate::input::Case;
 use answers::Refusal;
-use enclave::EnclaveAnswer;
 use enclave::check::check_enclave;
-use federate::FederateAnswer;
+use federate::FederateAccepted;
 use federate::check::check_federate;
+use std::fmt;
 
+#[derive(Clone, Copy, Debug)]
 pub enum Answer {
-    Enclave { links: u64 },
-    Federate { enclaves: u64, links: u64 },
-    Refused(Refusal),
+    Enclave(Result<u64, Refusal>),
+    Federate(Result<FederateAccepted, Refusal>),
     UnknownKind,
 }
 
-fn enclave_answer(pack: &[u8], batch: &[u8], house: &[u8]) -> Answer {
-    match check_enclave(pack, batch, house) {
-        EnclaveAnswer::Accepted { links } => Answer::Enclave { links },
-        EnclaveAnswer::Refused(refusal) => Answer::Refused(refusal),
-    }
-}
-
-fn federate_answer(pack: &[u8], batch: &[u8], house: &[u8]) -> Answer {
-    match check_federate(pack, batch, house) {
-        FederateAnswer::Accepted { enclaves, links } => Answer::Federate {
-            enclaves: u64::from(enclaves),
-            links,
-        },
-        FederateAnswer::Refused(refusal) => Answer::Refused(refusal),
-    }
-}
-
-// The answer of a case whose first byte is `kind`.
-pub fn answer_of(kind: u8, pack: &[u8], batch: &[u8], house: &[u8]) -> Answer {
-    match kind {
-        0 => enclave_answer(pack, batch, house),
-        1 => federate_answer(pack, batch, house),
+pub fn answer_of(case: Case) -> Answer {
+    match case.kind {
+        0 => Answer::Enclave(check_enclave(case.pack, case.batch, case.house)),
+        1 => Answer::Federate(check_federate(case.pack, case.batch, case.house)),
         _ => Answer::UnknownKind,
+    }
+}
+
+impl fmt::Display for Answer {
+    fn fmt<W: fmt::Write>(&self, f: &mut fmt::Formatter<W>) -> fmt::Result {
+        match *self {
+            Answer::Enclave(Ok(links)) => write!(f, "accepted {links}"),
+            Answer::Federate(Ok(FederateAccepted { enclaves, links })) => {
+                write!(f, "accepted {enclaves} {links}")
+            }
+            Answer::Enclave(Err(refusal)) | Answer::Federate(Err(refusal)) => {
+                write!(f, "refused {refusal}")
+            }
+            Answer::UnknownKind => write!(f, "unknown kind"),
+        }
     }
 }

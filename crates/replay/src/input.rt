@@ -1,81 +1,75 @@
 // Reading a corpus, case by case. Its numbers go high byte first.
-ghost use Rattle.std.specs.Prelude.{◌≤◌, length, IfOk};
-ghost use Rattle.replay.specs.Within.{Within};
-
 use std::io;
 use std::io::{BufRead, ErrorKind, Read};
 
-// What comes next: a case, with its first byte and how many bytes of each part were kept, a case that is cut off, or the corpus's end.
-pub enum Next {
-    Case {
-        kind: u8,
-        pack: usize,
-        batch: usize,
-        house: usize,
-    },
-    CutOff,
-    End,
+// A case: its first byte, and what was kept of each part.
+#[derive(Clone, Copy)]
+pub struct Case<'a> {
+    pub kind: u8,
+    pub pack: &'a [u8],
+    pub batch: &'a [u8],
+    pub house: &'a [u8],
 }
 
-// What ends the reading of a case.
-#[derive(Drop)]
-enum Stop {
+// Why a case is not read: it is cut off, or its reading failed.
+#[derive(Debug, Drop)]
+pub enum ReadError {
     CutOff,
     Failed(io::Error),
 }
 
-impl From<io::Error> for Stop {
-    fn from(error: io::Error) -> Stop {
+impl From<io::Error> for ReadError {
+    fn from(error: io::Error) -> ReadError {
         match error.kind() {
-            ErrorKind::UnexpectedEof => Stop::CutOff,
-            _ => Stop::Failed(error),
+            ErrorKind::UnexpectedEof => ReadError::CutOff,
+            _ => ReadError::Failed(error),
         }
     }
 }
 
-fn read_u32<R: Read>(input: &mut R) -> Result<u32, Stop> {
+fn read_u32<R: Read>(input: &mut R) -> Result<u32, ReadError> {
     let mut bytes = [0u8; 4];
     input.read_exact(&mut bytes)?;
     Ok(u32::from_be_bytes(bytes))
 }
 
 // Takes bytes that are not kept.
-fn pass_over<R: Read>(input: &mut R, len: usize) -> Result<(), Stop> {
-    let mut block = [0u8; 4096];
-    let mut left = len;
-    while 0 < left {
-        let n = left.min(4096);
-        input.read_exact(&mut block[..n])?;
-        left -= n;
+fn pass_over<R: Read>(input: &mut R, len: usize) -> Result<(), ReadError> {
+    let passed = io::copy(&mut input.by_ref().take(len as u64), &mut io::sink())?;
+    if passed < len as u64 {
+        return Err(ReadError::CutOff);
     }
     Ok(())
 }
 
-// Takes `len` bytes, keeps as many as `part` has room for, and answers how many these are.
-fn take<R: Read>(input: &mut R, part: &mut [u8], len: u32) -> Result<usize, Stop>
-    ensures { IfOk result (λ n. n ≤ length part.new) }
-{
+// Takes `len` bytes, and keeps as many as `room` has room for.
+fn take<'a, R: Read>(input: &mut R, room: &'a mut [u8], len: u32) -> Result<&'a [u8], ReadError> {
     let len = len as usize;
-    let kept = len.min(part.len());
-    input.read_exact(&mut part[..kept])?;
+    let kept = len.min(room.len());
+    input.read_exact(&mut room[..kept])?;
     pass_over(input, len - kept)?;
-    Ok(kept)
+    Ok(&room[..kept])
+}
+
+// Room for the parts of a case.
+#[derive(Drop)]
+pub struct Room<'a> {
+    pub pack: &'a mut [u8],
+    pub batch: &'a mut [u8],
+    pub house: &'a mut [u8],
 }
 
 // Takes the parts of a case whose first byte is `kind`.
-fn read_parts<R: Read>(
+fn read_parts<'a, R: Read>(
     kind: u8,
     input: &mut R,
-    pack: &mut [u8],
-    batch: &mut [u8],
-    house: &mut [u8],
-) -> Result<Next, Stop>
-    ensures { IfOk result (λ n. Within n (length pack.new) (length batch.new) (length house.new)) }
-{
+    room: &'a mut Room,
+) -> Result<Case<'a>, ReadError> {
     let pack_len = read_u32(input)?;
     let batch_len = read_u32(input)?;
     let house_len = read_u32(input)?;
-    Ok(Next::Case {
+    let Room { pack, batch, house } = room;
+    Ok(Case {
         kind,
         pack: take(input, pack, pack_len)?,
         batch: take(input, batch, batch_len)?,
@@ -83,23 +77,16 @@ fn read_parts<R: Read>(
     })
 }
 
-// Takes the next case.
-pub fn read_case<R: BufRead>(
+// Takes the next case, if there is one.
+pub fn read_case<'a, R: BufRead>(
     input: &mut R,
-    pack: &mut [u8],
-    batch: &mut [u8],
-    house: &mut [u8],
-) -> io::Result<Next>
-    ensures { IfOk result (λ n. Within n (length pack.new) (length batch.new) (length house.new)) }
-{
-    if input.fill_buf()?.is_empty() {
-        return Ok(Next::End);
+    room: &'a mut Room,
+) -> Result<Option<Case<'a>>, ReadError> {
+    if input.fill_buf().map_err(ReadError::Failed)?.is_empty() {
+        return Ok(None);
     }
     let mut kind = [0u8; 1];
-    input.read_exact(&mut kind)?;
-    match read_parts(kind[0], input, pack, batch, house) {
-        Ok(next) => Ok(next),
-        Err(Stop::CutOff) => Ok(Next::CutOff),
-        Err(Stop::Failed(error)) => Err(error),
-    }
+    input.read_exact(&mut kind).map_err(ReadError::Failed)?;
+    let case = read_parts(kind[0], input, room)?;
+    Ok(Some(case))
 }

@@ -4,10 +4,10 @@
 mod answer;
 mod corpus;
 mod input;
-mod output;
 
 ghost use Rattle.std.specs.Prelude.{◌≤◌};
 
+use input::Room;
 use std::io;
 
 // With room for so many bytes of a pack and of each text.
@@ -15,13 +15,12 @@ fn answer_with<const PACK: usize, const TEXT: usize>(rt: &HostRuntime) -> io::Re
     requires pack { PACK ≤ 8388608 }
     requires text { TEXT ≤ 8388608 }
 {
-    corpus::answer_all(
-        &mut rt.reader(),
-        &mut [0u8; PACK],
-        &mut [0u8; TEXT],
-        &mut [0u8; TEXT],
-        &mut io::writer(rt),
-    )
+    let mut room = Room {
+        pack: &mut [0u8; PACK],
+        batch: &mut [0u8; TEXT],
+        house: &mut [0u8; TEXT],
+    };
+    corpus::answer_all(&mut rt.reader(), &mut room, &mut io::writer(rt))
 }
 
 // A byte more than a pack or a text may have is kept: the answer does not depend on the rest.

@@ -1,27 +1,26 @@
 -- Of rows that are sorted and scanned, the smallest that does not fit is the first record at fault. Assumes nothing.
 use Rattle.std.proofs.Common.{ℕ, zero, suc, ◌+◌, ◌-◌, ◌<◌, ◌≤◌, ◌≡◌, true, leb, List, [], ◌∷◌, length, get_or, refl, sym, ap, ◌∙◌, add-one, arith, IsPermutation}
+use Rattle.std.specs.Prelude.{Option, Some, None}
 use Rattle.std.specs.List.Sorted.{IsSorted}
 use Rattle.std.proofs.lemmas.List.Sorted.{IsPermutation-refl}
 use borrow.Author.Tests.{leb-true, leb-false}
 use Rattle.identity.specs.declared.IdentityPlace.{IdentityPlace}
-use Rattle.identity.specs.declared.ByteOrder.TheVariants.{Equal}
+use Rattle.std.specs.declared.cmp.Ordering.TheVariants.{Equal}
 use Rattle.identity.specs.Order.{compared}
 use Rattle.identity.proofs.Order.{compared_same}
-use Rattle.answers.specs.declared.Outcome.{Outcome}
-use Rattle.answers.specs.declared.Outcome.TheVariants.{Passed}
-use Rattle.answers.specs.Checks.{Check, first, run}
+use Rattle.answers.specs.Checks.{Check, Outcome, first, run, passed}
 use Rattle.answers.proofs.Laws.{first_past, first_stays}
 use Rattle.answers.proofs.Loops.{Remaining, run_next, run_over}
 use Rattle.schema.specs.Rows.{route_at}
 use Rattle.schema.specs.Records.{records_of, is_of}
 use Rattle.checks.specs.Identities.{is_equal}
 use Rattle.route_pairs.specs.RoutePairs.{route_record_checks}
-use Rattle.route_pairs.specs.RouteOrder.{boundary_at, routes_of, row_order, are_halves, parted, fits, Scanned, FirstFault}
+use Rattle.route_pairs.specs.RouteOrder.{boundary_at, routes_of, row_order, are_halves, parted, fits, FoundBelow, Scanned, FirstFault}
 use Rattle.identity.proofs.Tests.{cases, below_or_not, both}
 use Rattle.route_pairs.proofs.Tests.{same_or, or_true}
 use Rattle.route_pairs.proofs.Order.{by_numbers, between}
 use Rattle.route_pairs.proofs.Rows.{row_inside, row_route, row_once, has_place}
-use Rattle.route_pairs.proofs.Scan.{scan_start}
+use Rattle.route_pairs.proofs.Scan.{scan_none}
 use Rattle.route_pairs.proofs.Pairs.{Beside, Paired, halves_are, are_paired, same_so, three_ways, route_passes, ways_differ, pairs_up}
 
 -- what it says that a row fits
@@ -108,12 +107,12 @@ module _ (text : IdentityPlace → List ℕ) (p rows : List ℕ) (permuted : IsP
           let h : Paired p j i = rw (ea, eb) at (halves_are p (at text p rows b) (at text p rows a) (twins q b a gq eq (omega arith) ga kb ka)) in
           bad ((λ z. h.0 (sym z)), sym h.1, sym h.2))))))
 
-    passes : (n : ℕ) → n < least → first (route_record_checks text p n) ≡ Passed
+    passes : (n : ℕ) → n < least → first (route_record_checks text p n) ≡ passed
     unfolding route_record_checks first
     passes n h = cases (is_of p 23 n) (λ t. route_passes text p n (let w = s.within in omega arith) t (paired n h t)) (λ f. rw f)
 
     -- and where a row's record passes, it fits
-    module _ (k : ℕ) (h : k < length rows) (good : first (route_record_checks text p (at text p rows k)) ≡ Passed) where
+    module _ (k : ℕ) (h : k < length rows) (good : first (route_record_checks text p (at text p rows k)) ≡ passed) where
       beside : (j : ℕ) → j < length rows → key text p rows k ≡ key text p rows j → Beside text p (at text p rows k) (at text p rows j)
       beside j g e = (row_inside p rows permuted j g, row_route p rows permuted j g, sym e)
 
@@ -138,7 +137,7 @@ module _ (text : IdentityPlace → List ℕ) (p rows : List ℕ) (permuted : IsP
                 (differ (at text p rows (k + 1)) (at text p rows (k + 2)) two three (row_once p rows permuted (k + 1) (k + 2) (omega arith) m)),
           ))
 
-    stops : least < records_of p → first (route_record_checks text p least) ≡ Passed → ⊥
+    stops : least < records_of p → first (route_record_checks text p least) ≡ passed → ⊥
     stops h good = s.named h (λ j g e. passed_fits j g (rw e good))
 
 -- the first list of checks that does not pass decides
@@ -152,18 +151,20 @@ module _ (f : ℕ → List Check) (i n : ℕ) (fault : FirstFault f i n) where
   pub fault_first : (o : Outcome) → i < n → o ≡ first (f i) → o ≡ first (run f 0 n)
   fault_first o h e = e ∙ sym (up_to i (omega arith) ∙ rw (run_next f i n h) (first_stays (f i) _ (fault.stops h)))
 
-  pub fault_none : (o : Outcome) → n ≤ i → o ≡ Passed → o ≡ first (run f 0 n)
+  pub fault_none : (o : Outcome) → n ≤ i → o ≡ passed → o ≡ first (run f 0 n)
   fault_none o h e = e ∙ sym (up_to i (omega arith) ∙ rw (run_over f i n h) refl)
 
-pub fault_decides : (text : IdentityPlace → List ℕ) (p rows list : List ℕ) (least : ℕ) → list ≡ routes_of p → IsPermutation list rows → IsSorted (row_order (boundary_at text p)) rows → Scanned text p rows (length rows) least
-    → FirstFault (route_record_checks text p) least (records_of p)
-fault_decides text p rows list least e permuted up s =
-    let moved = rw e at permuted in
-    record { within = s.within; passes = passes text p rows moved up least s; stops = stops text p rows moved up least s }
+module _ (text : IdentityPlace → List ℕ) (p rows : List ℕ) (permuted : IsPermutation (routes_of p) rows) (up : IsSorted (row_order (boundary_at text p)) rows) where
+  fault_decides : (least : ℕ) → Scanned text p rows (length rows) least → FirstFault (route_record_checks text p) least (records_of p)
+  fault_decides least s = record { within = s.within; passes = passes text p rows permuted up least s; stops = stops text p rows permuted up least s }
+
+  pub fault_found : (found : Option ℕ) → FoundBelow (records_of p) (Scanned text p rows (length rows)) found → FoundBelow (records_of p) (λ i. FirstFault (route_record_checks text p) i (records_of p)) found
+  fault_found None s = fault_decides (records_of p) s
+  fault_found (Some i) s = (s.0, fault_decides i s.1)
 
 -- of a pack without routes there is none
-pub no_routes : (text : IdentityPlace → List ℕ) (p : List ℕ) (n : ℕ) → length (routes_of p) ≡ 0 → n ≡ records_of p → FirstFault (route_record_checks text p) n (records_of p)
-no_routes text p n z e = rw e (fault_decides text p [] [] (records_of p) (sym (empty (routes_of p) z)) (IsPermutation-refl []) (λ k d l h. absurd (omega arith)) (scan_start text p []))
+pub no_routes : (text : IdentityPlace → List ℕ) (p : List ℕ) → length (routes_of p) ≡ 0 → FirstFault (route_record_checks text p) (records_of p) (records_of p)
+no_routes text p z = fault_decides text p [] (rw (empty (routes_of p) z) (IsPermutation-refl [])) (λ k d l h. absurd (omega arith)) (records_of p) (scan_none text p)
   where
     empty : (xs : List ℕ) → length xs ≡ 0 → xs ≡ []
     empty [] h = refl

@@ -5,37 +5,30 @@ use Rattle.std.proofs.lemmas.Cmp.{nat_list_cmp_total, nat_cmp_total, on_total, t
 use Rattle.std.proofs.lemmas.List.Sorted.{ranks_by, sorted_far}
 use Rattle.std.specs.Cmp.{IsTotalOrder, IsStrictWeakOrder}
 use Rattle.std.specs.Cmp.Lexicographic.{slice_cmp}
-use Rattle.std.specs.Ordering.{nat_cmp, is_lt, ordering_then, ordering_reverse, then_cmp, on}
-use Rattle.std.specs.declared.cmp.Ordering.{Ordering}
-use Rattle.std.specs.declared.cmp.Ordering.TheVariants as order
+use Rattle.std.specs.Ordering.{nat_cmp, is_lt, ordering_reverse, then_cmp, on}
 use denote.Param.Members.{Mut}
 use denote.Ref.{Bor}
 use Rattle.std.specs.Fn.{Called}
 use Rattle.std.proofs.lemmas.Fn.{always_returns_same}
 use Rattle.std.specs.List.Sorted.{IsSorted, IsSortedByClosure}
-use Rattle.identity.specs.declared.ByteOrder.{ByteOrder}
-use Rattle.identity.specs.declared.ByteOrder.TheVariants.{Less, Equal, Greater}
+use Rattle.std.specs.declared.cmp.Ordering.{Ordering}
+use Rattle.std.specs.declared.cmp.Ordering.TheVariants.{Less, Equal, Greater}
 use Rattle.identity.specs.Order.{compared}
 use Rattle.identity.proofs.Order.{compared_same, compared-equal}
-use Rattle.route_pairs.specs.RouteOrder.{then, row_order}
+use Rattle.route_pairs.specs.RouteOrder.{row_order}
 
 -- the order of texts is the one of lists of numbers
-as_list : (a b : List ℕ) → slice_cmp nat_cmp a b ≡ then (compared a b) order.Equal
+as_list : (a b : List ℕ) → slice_cmp nat_cmp a b ≡ compared a b
 unfolding compared
 as_list [] [] = refl
 as_list [] (y ∷ ys) = refl
 as_list (x ∷ xs) [] = refl
 as_list (x ∷ xs) (y ∷ ys) = grind (arith, nat_tests, as_list xs ys)
 
-then_both : (o : ByteOrder) (q : Ordering) → ordering_then (then o order.Equal) q ≡ then o q
-then_both Less q = refl
-then_both Equal q = refl
-then_both Greater q = refl
-
 module _ (key : ℕ → List ℕ) where
   row_order_is : (a b : ℕ) → then_cmp (on key (slice_cmp nat_cmp)) nat_cmp a b ≡ row_order key a b
   unfolding row_order
-  row_order_is a b = rw (as_list (key a) (key b), then_both (compared (key a) (key b)) (nat_cmp a b))
+  row_order_is a b = rw (as_list (key a) (key b)) refl
 
   pub row_order_total : IsTotalOrder (row_order key)
   row_order_total = subst IsTotalOrder (λ i a b. row_order_is a b i) (then_total (on_total key nat_list_cmp_total) nat_cmp_total)
@@ -44,7 +37,7 @@ module _ (key : ℕ → List ℕ) where
   row_order_weak = ranks_by row_order_total (λ a. a)
 
 -- texts of which neither is below the other are the same
-neither : (o q : ByteOrder) → then o order.Equal ≡ ordering_reverse (then q order.Equal) → (o ≡ Less → ⊥) → (q ≡ Less → ⊥) → o ≡ Equal
+neither : (o q : Ordering) → o ≡ ordering_reverse q → (o ≡ Less → ⊥) → (q ≡ Less → ⊥) → o ≡ Equal
 neither Less q e n m = absurd (n refl)
 neither Equal q e n m = refl
 neither Greater Less e n m = absurd (m refl)

@@ -2,22 +2,19 @@
 use Rattle.std.proofs.Common.{ℕ, ◌<◌, ◌≤◌, ◌≡◌, Bool, true, false, not, eqb, leb, List, ◌∷◌, refl, sym, ap, ◌∙◌, arith}
 use borrow.Author.Tests.{eq-eqb, ne_eqb, le-leb, leb-true, eqb-true, eqb-false}
 use Rattle.identity.specs.declared.IdentityPlace.{IdentityPlace}
-use Rattle.identity.specs.declared.ByteOrder.{ByteOrder}
-use Rattle.identity.specs.declared.ByteOrder.TheVariants.{Less, Equal, Greater}
+use Rattle.std.specs.declared.cmp.Ordering.{Ordering}
+use Rattle.std.specs.declared.cmp.Ordering.TheVariants.{Less, Equal, Greater}
 use Rattle.identity.specs.Order.{compared}
 use Rattle.identity.proofs.Order.{compared_same, compared-equal}
 use Rattle.answers.specs.declared.Refusal.{Refusal}
-use Rattle.answers.specs.declared.Outcome.TheVariants.{Passed}
-use Rattle.answers.specs.Checks.{Check, need, first}
+use Rattle.answers.specs.Checks.{Check, need, first, passed}
 use Rattle.schema.specs.declared.index.RouteDirection.{RouteDirection}
 use Rattle.schema.specs.declared.index.RouteDirection.TheVariants as direction
 use Rattle.schema.specs.declared.rows.RouteImage.{RouteImage}
 use Rattle.schema.specs.Rows.{route_at}
 use Rattle.schema.specs.Records.{records_of, is_of, direction_number, domain_number}
 use Rattle.checks.specs.Identities.{is_equal}
-use Rattle.route_pairs.specs.declared.Half.{Half}
-use Rattle.route_pairs.specs.declared.Half.TheVariants.{Inbound, Outbound, OtherDomain, OtherDelay}
-use Rattle.route_pairs.specs.RoutePairs.{is_half, half_at, halves, pair_checks, route_record_checks}
+use Rattle.route_pairs.specs.RoutePairs.{goes, other_domain, other_delay, half_at, halves, pair_checks, route_record_checks}
 use Rattle.route_pairs.specs.RouteOrder.{boundary_at, are_halves}
 use Rattle.route_pairs.proofs.Counts.{below_zero, below_some, below_one, below_two}
 use Rattle.identity.proofs.Tests.{cases, below_or_not, both}
@@ -48,7 +45,7 @@ are_paired p i j h = rw (ne_eqb _ _ h.0, eq-eqb _ _ h.1, eq-eqb _ _ h.2)
 pub same_so : (a b : List ℕ) → is_equal (compared a b) ≡ true → a ≡ b
 same_so a b h = compared-equal a b (equal (compared a b) h)
   where
-    equal : (o : ByteOrder) → is_equal o ≡ true → o ≡ Equal
+    equal : (o : Ordering) → is_equal o ≡ true → o ≡ Equal
     equal Less e = absurd (cc)
     equal Equal e = refl
     equal Greater e = absurd (cc)
@@ -65,7 +62,7 @@ by_way {ℓ} : {X : Type ℓ} (d : RouteDirection) → (direction_number d ≡ 0
 by_way direction.Inbound a b = a refl
 by_way direction.Outbound a b = b refl
 
-passed_so : (b : Bool) (r : Refusal) (cs : List Check) → first (need b r ∷ cs) ≡ Passed → (b ≡ true) × (first cs ≡ Passed)
+passed_so : (b : Bool) (r : Refusal) (cs : List Check) → first (need b r ∷ cs) ≡ passed → (b ≡ true) × (first cs ≡ passed)
 unfolding first
 passed_so true r cs e = (refl, e)
 passed_so false r cs e = absurd (cc)
@@ -75,19 +72,19 @@ module _ (text : IdentityPlace → List ℕ) (p : List ℕ) (n : ℕ) (inside : 
   own = route_at p n
 
   -- a record that is counted, both ways
-  counts : (half : Half) (k : ℕ) → k < records_of p → half_at text p own half k ≡ true → Beside text p n k × (is_half half own (route_at p k) ≡ true)
+  counts : (half : RouteImage → Bool) (k : ℕ) → k < records_of p → half_at text p own half k ≡ true → Beside text p n k × (half (route_at p k) ≡ true)
   counts half k g h =
       let a = both (is_of p 23 k) _ h in
-      let b = both (is_equal (compared (boundary_at text p k) (boundary_at text p n))) (is_half half own (route_at p k)) a.1 in
+      let b = both (is_equal (compared (boundary_at text p k) (boundary_at text p n))) (half (route_at p k)) a.1 in
       ((g, a.0, same_so _ _ b.0), b.1)
 
-  is_counted : (half : Half) (k : ℕ) → Beside text p n k → is_half half own (route_at p k) ≡ true → half_at text p own half k ≡ true
+  is_counted : (half : RouteImage → Bool) (k : ℕ) → Beside text p n k → half (route_at p k) ≡ true → half_at text p own half k ≡ true
   is_counted half k b h =
       let q : compared (boundary_at text p k) (boundary_at text p n) ≡ Equal = rw b.2 (compared_same (boundary_at text p n)) in
       rw (b.1, q) h
 
   module _ (pairs : (i j : ℕ) → Beside text p n i → Beside text p n j → (i ≡ j → ⊥) → (Paired p i j → ⊥) → ⊥) where
-    one_way : (half : Half) (d : ℕ) → ((k : ℕ) → is_half half own (route_at p k) ≡ true → direction_number (route_at p k).direction ≡ d) → halves text p own half ≤ 1
+    one_way : (half : RouteImage → Bool) (d : ℕ) → ((k : ℕ) → half (route_at p k) ≡ true → direction_number (route_at p k).direction ≡ d) → halves text p own half ≤ 1
     one_way half d is =
         below_one _ (records_of p) (λ i j hi hj ci cj. same_or i j
         (λ e. e)
@@ -96,7 +93,7 @@ module _ (text : IdentityPlace → List ℕ) (p : List ℕ) (n : ℕ) (inside : 
         let b = counts half j hj cj in
         absurd (pairs i j a.0 b.0 ne (λ h. h.0 (is i a.1 ∙ sym (is j b.1))))))
 
-    no_other : (half : Half) (v : RouteImage → ℕ) → ((k : ℕ) → is_half half own (route_at p k) ≡ true → v (route_at p k) ≡ v own → ⊥) → ((k : ℕ) → Paired p n k → v (route_at p k) ≡ v own) → halves text p own half ≡ 0
+    no_other : (half : RouteImage → Bool) (v : RouteImage → ℕ) → ((k : ℕ) → half (route_at p k) ≡ true → v (route_at p k) ≡ v own → ⊥) → ((k : ℕ) → Paired p n k → v (route_at p k) ≡ v own) → halves text p own half ≡ 0
     no_other half v differs same =
         below_zero _ (records_of p) (λ k h. cases (half_at text p own half k)
         (λ t.
@@ -105,27 +102,27 @@ module _ (text : IdentityPlace → List ℕ) (p : List ℕ) (n : ℕ) (inside : 
         absurd (pairs n k (inside, route, refl) a.0 (λ e. d (ap (λ (i : ℕ). v (route_at p i)) (sym e))) (λ q. d (same k q))))
         (λ f. f))
 
-    pub route_passes : first (route_record_checks text p n) ≡ Passed
+    pub route_passes : first (route_record_checks text p n) ≡ passed
     unfolding first route_record_checks
     route_passes =
-        let a = le-leb _ 1 (one_way Inbound 0 (λ k e. eqb-true _ _ e)) in
-        let b = le-leb _ 1 (one_way Outbound 1 (λ k e. eqb-true _ _ e)) in
-        let c = eq-eqb _ 0 (no_other OtherDomain (λ r. domain_number r.timing_domain) (λ k e. eqb-false _ _ (not_true _ e)) (λ k h. h.1)) in
-        let d = eq-eqb _ 0 (no_other OtherDelay (λ r. r.delay_nanos) (λ k e. eqb-false _ _ (not_true _ e)) (λ k h. h.2)) in
+        let a = le-leb _ 1 (one_way (goes direction.Inbound) 0 (λ k e. eqb-true _ _ e)) in
+        let b = le-leb _ 1 (one_way (goes direction.Outbound) 1 (λ k e. eqb-true _ _ e)) in
+        let c = eq-eqb _ 0 (no_other (other_domain own) (λ r. domain_number r.timing_domain) (λ k e. eqb-false _ _ (not_true _ e)) (λ k h. h.1)) in
+        let d = eq-eqb _ 0 (no_other (other_delay own) (λ r. r.delay_nanos) (λ k e. eqb-false _ _ (not_true _ e)) (λ k h. h.2)) in
         rw (route, a, b, c, d)
 
-  module _ (good : first (route_record_checks text p n) ≡ Passed) where
-    all_pass : (leb (halves text p own Inbound) 1 ≡ true) × (leb (halves text p own Outbound) 1 ≡ true) × (eqb (halves text p own OtherDomain) 0 ≡ true) × (eqb (halves text p own OtherDelay) 0 ≡ true)
+  module _ (good : first (route_record_checks text p n) ≡ passed) where
+    all_pass : (leb (halves text p own (goes direction.Inbound)) 1 ≡ true) × (leb (halves text p own (goes direction.Outbound)) 1 ≡ true) × (eqb (halves text p own (other_domain own)) 0 ≡ true) × (eqb (halves text p own (other_delay own)) 0 ≡ true)
     unfolding route_record_checks
     all_pass =
-        let g : first (pair_checks text p own) ≡ Passed = rw route at good in
+        let g : first (pair_checks text p own) ≡ passed = rw route at good in
         let a = passed_so _ _ _ g in
         let b = passed_so _ _ _ a.1 in
         let c = passed_so _ _ _ b.1 in
         let d = passed_so _ _ _ c.1 in
         (a.0, b.0, c.0, d.0)
 
-    two_of : (half : Half) → halves text p own half ≤ 1 → (i j : ℕ) → Beside text p n i → Beside text p n j → (i ≡ j → ⊥) → is_half half own (route_at p i) ≡ true → is_half half own (route_at p j) ≡ true → ⊥
+    two_of : (half : RouteImage → Bool) → halves text p own half ≤ 1 → (i j : ℕ) → Beside text p n i → Beside text p n j → (i ≡ j → ⊥) → half (route_at p i) ≡ true → half (route_at p j) ≡ true → ⊥
     two_of half few i j bi bj ne hi hj =
         let a = is_counted half i bi hi in
         let b = is_counted half j bj hj in
@@ -136,10 +133,10 @@ module _ (text : IdentityPlace → List ℕ) (p : List ℕ) (n : ℕ) (inside : 
     pub ways_differ : (i j : ℕ) → Beside text p n i → Beside text p n j → (i ≡ j → ⊥) → direction_number (route_at p i).direction ≡ direction_number (route_at p j).direction → ⊥
     ways_differ i j bi bj ne e =
         by_way (route_at p j).direction
-        (λ w. two_of Inbound (leb-true _ 1 all_pass.0) i j bi bj ne (eq-eqb _ 0 (e ∙ w)) (eq-eqb _ 0 w))
-        (λ w. two_of Outbound (leb-true _ 1 all_pass.1) i j bi bj ne (eq-eqb _ 1 (e ∙ w)) (eq-eqb _ 1 w))
+        (λ w. two_of (goes direction.Inbound) (leb-true _ 1 all_pass.0) i j bi bj ne (eq-eqb _ 0 (e ∙ w)) (eq-eqb _ 0 w))
+        (λ w. two_of (goes direction.Outbound) (leb-true _ 1 all_pass.1) i j bi bj ne (eq-eqb _ 1 (e ∙ w)) (eq-eqb _ 1 w))
 
-    alike : (half : Half) → eqb (halves text p own half) 0 ≡ true → (k x y : ℕ) → Beside text p n k → is_half half own (route_at p k) ≡ not (eqb x y) → x ≡ y
+    alike : (half : RouteImage → Bool) → eqb (halves text p own half) 0 ≡ true → (k x y : ℕ) → Beside text p n k → half (route_at p k) ≡ not (eqb x y) → x ≡ y
     alike half z k x y b e =
         cases (eqb x y)
         (λ t. eqb-true x y t)
@@ -148,4 +145,4 @@ module _ (text : IdentityPlace → List ℕ) (p : List ℕ) (n : ℕ) (inside : 
         absurd (omega (arith, eqb-true (halves text p own half) 0 z)))
 
     pub pairs_up : (k : ℕ) → Beside text p n k → (n ≡ k → ⊥) → Paired p n k
-    pairs_up k b ne = (ways_differ n k (inside, route, refl) b ne, alike OtherDomain all_pass.2 k _ _ b refl, alike OtherDelay all_pass.3 k _ _ b refl)
+    pairs_up k b ne = (ways_differ n k (inside, route, refl) b ne, alike (other_domain own) all_pass.2 k _ _ b refl, alike (other_delay own) all_pass.3 k _ _ b refl)

@@ -1,7 +1,10 @@
 -- The routes of a pack listed, by the numbers of their records and in any order. Assumes nothing.
-use Rattle.std.proofs.Common.{ℕ, zero, suc, ◌+◌, ◌-◌, ◌<◌, ◌≤◌, ◌≡◌, Bool, true, false, cond, ◌&&◌, List, [], ◌∷◌, ◌++◌, length, get_or, take, set, refl, sym, ap, ◌∙◌, arith, add-one, append-nil, length-append, length-take-le, get_or-take, take_all, take-suc-set, IsPermutation, count_by, eqb, true≢false}
+use Rattle.std.proofs.Common.{ℕ, zero, suc, ◌+◌, ◌-◌, ◌<◌, ◌≤◌, ◌≡◌, Bool, true, false, cond, ◌&&◌, List, [], ◌∷◌, ◌++◌, length, get_or, take, drop, refl, sym, ap, ◌∙◌, arith, add-one, append-nil, length-append, length-take-le, get_or-take, IsPermutation, count_by, eqb, true≢false}
 use borrow.Author.Tests.{eq-eqb, ne_eqb, eqb-true}
-use Rattle.std.proofs.lemmas.List.Sorted.{sum_by-IsPermutation}
+use Rattle.std.specs.List.{All, refill}
+use Rattle.std.proofs.Math.Seq.{take-append_seam}
+use Rattle.std.proofs.lemmas.List.{get_or_default}
+use Rattle.std.proofs.lemmas.List.Sorted.{sum_by-IsPermutation, length_permutation}
 use Rattle.std.proofs.lemmas.List.Sums.{sum_by-cons, sum_by-append, get_or-le-sum_by, sum_by_more_le}
 use Rattle.schema.specs.Records.{is_of, records_of, count_below}
 use Rattle.schema.proofs.Counts.{records_few}
@@ -64,11 +67,17 @@ module _ (p : List ℕ) where
         let c = rw route at (count_next n) in
         omega arith
 
-    pub list_route : (rows : List ℕ) (found : ℕ) → found < length rows → take found rows ≡ routes_below p n → take (found + 1) (set rows found n) ≡ routes_below p (n + 1)
-    list_route rows found h had = rw (add-one found, take-suc-set rows found n h, had) (sym (rw route at (routes_next n)))
+    pub list_route : routes_below p n ++ (n ∷ []) ≡ routes_below p (n + 1)
+    list_route = sym (rw route at (routes_next n))
 
-  pub list_other : (rows : List ℕ) (n found : ℕ) → take found rows ≡ routes_below p n → is_of p 23 n ≡ false → take found rows ≡ routes_below p (n + 1)
-  list_other rows n found had e = had ∙ sym (rw (routes_next n, e, append-nil))
+  pub list_other : (n : ℕ) → is_of p 23 n ≡ false → routes_below p n ≡ routes_below p (n + 1)
+  list_other n e = sym (rw (routes_next n, e, append-nil))
+
+-- the routes sorted in place stand in the vector as they were sorted
+pub sorted_back : (p items lent ys now : List ℕ) → items ≡ routes_of p → lent ≡ items → IsPermutation lent ys → now ≡ refill (length items) items ys → (now ≡ ys) × IsPermutation (routes_of p) ys
+sorted_back p items lent ys now listed e permuted back =
+    let moved : IsPermutation items ys = rw (← e) permuted in
+    (back ∙ rw (← length_permutation items ys moved) (take-append_seam ys (drop (length ys) items)), rw (← listed) moved)
 
 -- counts over a list
 module _ (f : ℕ → Bool) where
@@ -119,6 +128,9 @@ module _ (p rows : List ℕ) (permuted : IsPermutation (routes_of p) rows) where
   pub row_inside : (k : ℕ) → k < length rows → get_or rows k 0 < records_of p
   row_inside k h = below_or_not (get_or rows k 0) (records_of p) (λ g. g) (λ g. absurd (not_none k h (λ j l t e. omega arith)))
 
+  pub rows_inside : All (λ row. row < records_of p) rows
+  rows_inside k d h = let e = get_or_default rows k d 0 h in let i = row_inside k h in omega arith
+
   pub row_route : (k : ℕ) → k < length rows → is_of p 23 (get_or rows k 0) ≡ true
   row_route k h = cases (is_of p 23 (get_or rows k 0)) (λ t. t) (λ u. absurd (not_none k h (λ j l t e. true≢false (sym t ∙ ap (is_of p 23) e ∙ u))))
 
@@ -136,4 +148,4 @@ module _ (p rows : List ℕ) (permuted : IsPermutation (routes_of p) rows) where
       let u = below_some (among (λ j. eqb j n)) (records_of p) n h i in
       omega (arith, counted (λ j. eqb j n))
 
-pub ruleset rows_laws = (count_none, count_next, count_few, routes_none, list_room, list_route, list_other, take_all)
+pub ruleset rows_laws = (routes_none, list_room, list_route, list_other)

@@ -13,3 +13,7 @@ or_true false y h a b = b h
 pub not_true : (x : Bool) → not x ≡ true → x ≡ false
 not_true true h = absurd (true≢false (sym h))
 not_true false h = refl
+
+pub not_false : (x : Bool) → not x ≡ false → x ≡ true
+not_false true h = refl
+not_false false h = absurd (true≢false h)

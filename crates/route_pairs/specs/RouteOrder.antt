@@ -1,25 +1,21 @@
 -- Rows of routes in the order of their boundaries. Only the inner functions of the sort and of the scan say what they do by these. Assumes nothing.
-use Rattle.std.specs.Prelude.{ℕ, zero, suc, ◌+◌, ◌<◌, ◌≤◌, Bool, true, false, not, ◌&&◌, ◌||◌, cond, ◌≡◌, List, [], ◌∷◌, ◌++◌, eqb, leb, length, slice_index}
-use Rattle.std.specs.Ordering.{nat_cmp, is_lt}
+use Rattle.std.specs.Prelude.{ℕ, zero, suc, ◌+◌, ◌<◌, ◌≤◌, Bool, true, false, not, ◌&&◌, ◌||◌, cond, ◌≡◌, List, [], ◌∷◌, ◌++◌, leb, length, slice_index, Option, MatchOption}
+use Rattle.std.specs.Ordering.{nat_cmp, is_lt, ordering_then}
 use Rattle.std.specs.declared.cmp.Ordering.{Ordering}
-use Rattle.std.specs.declared.cmp.Ordering.TheVariants as order
 use Rattle.identity.specs.declared.IdentityPlace.{IdentityPlace}
-use Rattle.identity.specs.declared.ByteOrder.{ByteOrder}
-use Rattle.identity.specs.declared.ByteOrder.TheVariants.{Less, Equal, Greater}
 use Rattle.identity.specs.Text.{identity_text}
 use Rattle.identity.specs.Order.{compared}
 use Rattle.answers.specs.Checks.{Check, first, passed}
 use Rattle.schema.specs.declared.rows.RouteImage.{RouteImage}
 use Rattle.schema.specs.Rows.{route_at}
-use Rattle.schema.specs.Records.{records_of, is_of, direction_number}
+use Rattle.schema.specs.Records.{records_of, is_of}
 use Rattle.checks.specs.Identities.{is_equal}
 use Rattle.route_pairs.specs.declared.Routes.{Routes}
-use Rattle.route_pairs.specs.declared.Half.TheVariants.{OtherDomain, OtherDelay}
-use Rattle.route_pairs.specs.RoutePairs.{is_half, route_record_checks}
+use Rattle.route_pairs.specs.RoutePairs.{goes, other_domain, other_delay, route_record_checks}
 
 -- the text that an identity names, and the text of record n's boundary
 abbrev pub text_of : Routes → IdentityPlace → List ℕ
-text_of r = identity_text r.batch.now r.house.now
+text_of r = identity_text r.texts.batch.now r.texts.house.now
 
 abbrev pub boundary_at : (IdentityPlace → List ℕ) → List ℕ → ℕ → List ℕ
 boundary_at text p n = text (route_at p n).boundary
@@ -32,15 +28,9 @@ routes_below p (suc n) = routes_below p n ++ cond (is_of p 23 n) (n ∷ []) []
 abbrev pub routes_of : List ℕ → List ℕ
 routes_of p = routes_below p (records_of p)
 
--- o decides where the texts are the same
-abbrev pub then : ByteOrder → Ordering → Ordering
-then Less o = order.Less
-then Equal o = o
-then Greater o = order.Greater
-
 -- rows by their texts, then by their numbers
 unfoldable pub row_order : (ℕ → List ℕ) → ℕ → ℕ → Ordering
-row_order key a b = then (compared (key a) (key b)) (nat_cmp a b)
+row_order key a b = ordering_then (compared (key a) (key b)) (nat_cmp a b)
 
 -- no row comes before one that is less
 abbrev pub InOrder : (ℕ → ℕ → Ordering) → List ℕ → Type 0
@@ -48,7 +38,7 @@ InOrder order rows = (a b : ℕ) → a ≤ b → b < length rows → is_lt (orde
 
 -- two routes of one boundary that are its two halves: one in and one out, of one domain and one delay
 abbrev pub are_halves : RouteImage → RouteImage → Bool
-are_halves a b = not (eqb (direction_number a.direction) (direction_number b.direction)) && (not (is_half OtherDomain a b) && not (is_half OtherDelay a b))
+are_halves a b = not (goes b.direction a) && (not (other_domain a b) && not (other_delay a b))
 
 -- the rows of the pack p in some order, as its texts say
 module _ (text : IdentityPlace → List ℕ) (p rows : List ℕ) where
@@ -77,3 +67,7 @@ pub record FirstFault (f : ℕ → List Check) (i n : ℕ) : Type 0 where
 -- record i is the first route at fault, or the number of records where none is
 abbrev pub FirstRouteFault : Routes → ℕ → Type 0
 FirstRouteFault r i = FirstFault (route_record_checks (text_of r) r.pack.bytes.now) i (records_of r.pack.bytes.now)
+
+-- P holds of what was found below n, or of n where nothing was
+abbrev pub FoundBelow : ℕ → (ℕ → Type 0) → Option ℕ → Type 0
+FoundBelow n P found = MatchOption found (P n) (λ i. (i < n) × P i)

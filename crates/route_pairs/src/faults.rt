@@ -1,12 +1,14 @@
 // The first route at fault: rows sorted by their boundaries, and one pass over neighbours.
-ghost use Rattle.std.specs.Prelude.{◌≡◌, ◌<◌, ◌≤◌, length, slice_index, IsPermutation, IsSorted};
+ghost use Rattle.std.specs.Prelude.{◌≡◌, ◌<◌, ◌≤◌, [], length, slice_index, IsPermutation, IsSorted};
+ghost use Rattle.std.specs.List.{All};
 ghost use Rattle.identity.specs.Order.{compared};
-ghost use Rattle.route_pairs.specs.RouteOrder.{text_of, boundary_at, routes_of, row_order, InOrder, are_halves, parted, fits, Scanned, FirstRouteFault};
+ghost use Rattle.schema.specs.Records.{records_of};
+ghost use Rattle.route_pairs.specs.RouteOrder.{text_of, boundary_at, routes_of, row_order, InOrder, are_halves, parted, fits, FoundBelow, Scanned, FirstRouteFault};
 
-use crate::{Half, Routes, is_half};
-use identity::ByteOrder;
-use identity::compare::compare_places;
+use crate::Routes;
+use arrayvec::ArrayVec;
 use schema::lent::{PACK_LIMIT, records_of};
+use schema::row::{Row, Stored};
 use schema::rows::RouteImage;
 use std::cmp::Ordering;
 
@@ -19,9 +21,9 @@ const MAX_ROUTES: usize = PACK_LIMIT / 64;
 fn are_halves(a: RouteImage, b: RouteImage) -> bool
     ensures { result ≡ are_halves a b }
 {
-    a.direction.number() != b.direction.number()
-        && !is_half(Half::OtherDomain, a, b)
-        && !is_half(Half::OtherDelay, a, b)
+    a.direction != b.direction
+        && a.timing_domain == b.timing_domain
+        && a.delay_nanos == b.delay_nanos
 }
 
 impl<'a> Routes<'a> {
@@ -35,26 +37,25 @@ impl<'a> Routes<'a> {
 
     // The routes, in the order of the records.
     #[tactic(auto, using(crate::proofs::Rows::rows_laws))]
-    fn list(self, rows: &mut [u32])
-        requires { length rows.old ≡ length (routes_of self.pack.bytes.now) }
-        ensures { rows.new ≡ routes_of self.entry.pack.bytes.now }
+    fn list<const ROOM: usize>(self, rows: &mut ArrayVec<u32, ROOM>)
+        requires none { rows.old.items ≡ [] }
+        requires room { length (routes_of self.pack.bytes.now) ≤ ROOM }
+        ensures { rows.new.items ≡ routes_of self.entry.pack.bytes.now }
     {
-        let mut found = 0;
         for n in 0..records_of(self.pack.bytes) {
             if self.pack.is_of(RouteImage::TABLE, n as usize) {
-                rows[found] = n;
-                found += 1;
+                rows.push(n);
             }
         }
     }
 
     // The order of the boundaries of records a and b.
-    pub fn order_of(self, a: u32, b: u32) -> ByteOrder
+    pub fn order_of(self, a: u32, b: u32) -> Ordering
         ensures { let key = boundary_at (text_of self.entry) self.entry.pack.bytes.now in result ≡ compared (key a) (key b) }
     {
         let left = RouteImage::at(self.pack, a as usize).boundary;
         let right = RouteImage::at(self.pack, b as usize).boundary;
-        compare_places(self.batch, self.house, left, right)
+        self.texts.compare(left, right)
     }
 
     // The order of records a and b: by their boundaries, then by their numbers.
@@ -62,11 +63,7 @@ impl<'a> Routes<'a> {
     pub fn order(self, a: u32, b: u32) -> Ordering
         ensures { result ≡ row_order (boundary_at (text_of self.entry) self.entry.pack.bytes.now) a b }
     {
-        match self.order_of(a, b) {
-            ByteOrder::Less => Ordering::Less,
-            ByteOrder::Equal => a.cmp(&b),
-            ByteOrder::Greater => Ordering::Greater,
-        }
+        self.order_of(a, b).then_with(|| a.cmp(&b))
     }
 
     pub fn sort(self, rows: &mut [u32])
@@ -104,55 +101,39 @@ impl<'a> Routes<'a> {
         are_halves(own, next) && self.parted(rows, k, k + 2)
     }
 
-    // The smallest row that does not fit where it stands; the number of records where all fit.
-    #[tactic(auto, using(crate::proofs::Scan::scan_laws))]
-    fn least_misfit(self, rows: &[u32]) -> u32
-        ensures { Scanned (text_of self.entry) self.entry.pack.bytes.now rows.now (length rows.now) result }
+    // The smallest row that does not fit where it stands.
+    fn least_misfit(self, rows: &[u32]) -> Option<u32>
+        requires { All (λ row. row < records_of self.pack.bytes.now) rows.now }
+        ensures { let p = self.entry.pack.bytes.now in FoundBelow (records_of p) (Scanned (text_of self.entry) p rows.now (length rows.now)) result }
     {
-        let mut least = records_of(self.pack.bytes);
-        for k in 0..rows.len() {
-            let row = rows[k];
-            if row < least && !self.fits(rows, k) {
-                least = row;
-            }
-        }
-        least
+        (0..rows.len())
+            .filter(|k| !self.fits(rows, *k))
+            .map(|k| rows[k])
+            .min()
     }
 
-    // The first record at fault, or the number of records; `rows` has a place for each route.
-    fn first_fault_in(self, rows: &mut [u32]) -> u32
-        requires { length rows.old ≡ length (routes_of self.pack.bytes.now) }
-        ensures { FirstRouteFault self.entry result }
-    {
-        self.list(rows);
-        self.sort(rows);
-        self.least_misfit(rows)
-    }
-
-    // With room for ROOM routes, in a frame of its own: packs with fewer do not pay for it.
+    // The first record at fault, with room for ROOM routes, in a frame of its own: packs with fewer do not pay for it.
     #[inline(never)]
-    fn first_fault_within<const ROOM: usize>(self, routes: usize) -> u32
-        requires all { routes ≡ length (routes_of self.pack.bytes.now) }
-        requires room { routes ≤ ROOM }
+    fn first_fault_within<const ROOM: usize>(self) -> Option<u32>
+        requires room { length (routes_of self.pack.bytes.now) ≤ ROOM }
         requires few { ROOM ≤ 65536 }
-        ensures { FirstRouteFault self.entry result }
+        ensures { FoundBelow (records_of self.entry.pack.bytes.now) (FirstRouteFault self.entry) result }
     {
-        let mut rows = [0u32; ROOM];
-        self.first_fault_in(&mut rows[..routes])
+        let mut rows = ArrayVec::<u32, ROOM>::new();
+        self.list(&mut rows);
+        self.sort(&mut rows);
+        self.least_misfit(&rows)
     }
 
-    // The first record at fault; the number of records where none is.
+    // The first record at fault.
     #[tactic(auto, using(crate::proofs::Rows::routes_few))]
-    pub fn first_fault(self) -> u32
-        ensures { FirstRouteFault self.entry result }
+    pub fn first_fault(self) -> Option<u32>
+        ensures { FoundBelow (records_of self.entry.pack.bytes.now) (FirstRouteFault self.entry) result }
     {
-        let routes = self.count();
-        if routes == 0 {
-            return records_of(self.pack.bytes);
+        match self.count() {
+            0 => None,
+            1..=SOME_ROUTES => self.first_fault_within::<SOME_ROUTES>(),
+            _ => self.first_fault_within::<MAX_ROUTES>(),
         }
-        if routes <= SOME_ROUTES {
-            return self.first_fault_within::<SOME_ROUTES>(routes);
-        }
-        self.first_fault_within::<MAX_ROUTES>(routes)
     }
 }

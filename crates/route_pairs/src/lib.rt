@@ -1,140 +1,129 @@
 // The routes of a federate, each against all of its boundary.
-#![tactic(auto)]
+#![tactic(auto, unfolding(answers::specs::Checks::first))]
 
-ghost use Rattle.std.specs.Prelude.{◌≡◌};
+ghost use Rattle.std.specs.Prelude.{◌≡◌, [], ◌∷◌, Bool};
+ghost use Rattle.std.specs.Bool.{then_some};
 ghost use Rattle.identity.specs.Text.{identity_text};
 ghost use Rattle.identity.specs.Order.{compared};
 ghost use Rattle.answers.specs.Checks.{first, run};
-ghost use Rattle.schema.specs.Records.{records_of};
+ghost use Rattle.schema.specs.declared.rows.RouteImage.{RouteImage};
+ghost use Rattle.schema.specs.Rows.{route_at};
+ghost use Rattle.schema.specs.Records.{records_of, is_of};
 ghost use Rattle.checks.specs.Identities.{is_equal};
-ghost use Rattle.route_pairs.specs.RoutePairs.{is_half, half_at, halves, pair_checks, route_record_checks};
+ghost use Rattle.route_pairs.specs.RoutePairs.{halves, Answers, way_check, alike_check, pair_checks, route_record_checks};
 ghost use Rattle.route_pairs.specs.RouteOrder.{text_of};
 
 pub mod faults;
 
-use answers::{Outcome, Refusal, field};
-use identity::ByteOrder;
-use identity::compare::compare_places;
+use answers::{Field, Refusal};
+use identity::texts::Texts;
+use schema::index::RouteDirection;
 use schema::lent::{Pack, records_of};
+use schema::row::{Row, Stored};
 use schema::rows::RouteImage;
-
-// What is counted among the routes of one boundary.
-#[derive(Clone, Copy)]
-pub enum Half {
-    Inbound,
-    Outbound,
-    OtherDomain,
-    OtherDelay,
-}
 
 // The records of a federate, and the two texts that its identities name parts of.
 #[derive(Clone, Copy)]
 pub struct Routes<'a> {
     pub pack: Pack<'a>,
-    pub batch: &'a [u8],
-    pub house: &'a [u8],
-}
-
-// Whether a route of the same boundary counts.
-pub fn is_half(half: Half, route: RouteImage, candidate: RouteImage) -> bool
-    ensures { result ≡ is_half half route candidate }
-{
-    match half {
-        Half::Inbound => candidate.direction.number() == 0,
-        Half::Outbound => candidate.direction.number() == 1,
-        Half::OtherDomain => candidate.timing_domain.number() != route.timing_domain.number(),
-        Half::OtherDelay => candidate.delay_nanos != route.delay_nanos,
-    }
+    pub texts: Texts<'a>,
 }
 
 impl<'a> Routes<'a> {
+    // Record k, where it is a route's.
+    fn route(self, k: u32) -> Option<RouteImage>
+        ensures { let p = self.entry.pack.bytes.now in result ≡ then_some (is_of p 23 k) (route_at p k) }
+    {
+        if !self.pack.is_of(RouteImage::TABLE, k as usize) {
+            return None;
+        }
+        Some(RouteImage::at(self.pack, k as usize))
+    }
+
     // Whether two routes are of one boundary.
     fn same_boundary(self, a: RouteImage, b: RouteImage) -> bool
         ensures { result ≡ is_equal (compared (text_of self.entry a.boundary) (text_of self.entry b.boundary)) }
     {
-        let order = compare_places(self.batch, self.house, a.boundary, b.boundary);
-        matches!(order, ByteOrder::Equal)
+        self.texts.compare(a.boundary, b.boundary).is_eq()
     }
 
-    // Whether record k is a route of the boundary that counts.
-    fn half_at(self, route: RouteImage, half: Half, k: u32) -> bool
-        ensures { result ≡ half_at (text_of self.entry) self.entry.pack.bytes.now route half k }
+    // How many routes of a route's boundary are such.
+    fn halves<F: Fn(RouteImage) -> bool>(self, route: RouteImage, counted: F) -> usize
+        requires { F.IsAlwaysCallable counted }
+        ensures { (test : RouteImage → Bool) → Answers (F.post counted) test → result ≡ halves (text_of self.entry) self.entry.pack.bytes.now route test }
     {
-        if !self.pack.is_of(RouteImage::TABLE, k as usize) {
-            return false;
-        }
-        let candidate = RouteImage::at(self.pack, k as usize);
-        self.same_boundary(candidate, route) && is_half(half, route, candidate)
+        (0..records_of(self.pack.bytes))
+            .filter_map(|k| self.route(k))
+            .filter(|c| self.same_boundary(*c, route) && counted(*c))
+            .count()
     }
 
-    // How many there are in the pack.
-    #[tactic(auto, using(schema::proofs::Counts::count_laws))]
-    fn halves(self, route: RouteImage, half: Half) -> u32
-        ensures { result ≡ halves (text_of self.entry) self.entry.pack.bytes.now route half }
+    // At most one half of the route's boundary goes that way.
+    fn check_one_way(self, route: RouteImage, direction: RouteDirection) -> Result<(), Refusal>
+        ensures { let text = text_of self.entry in let p = self.entry.pack.bytes.now in result ≡ first (way_check text p route direction ∷ []) }
     {
-        let mut found = 0;
-        for k in 0..records_of(self.pack.bytes) {
-            if self.half_at(route, half, k) {
-                found += 1;
-            }
+        if 1 < self.halves(route, |c| c.direction == direction) {
+            return Err(Refusal::DuplicateRouteHalf {
+                boundary: route.boundary,
+                direction,
+            });
         }
-        found
+        Ok(())
+    }
+
+    // No route of the route's boundary differs from it in a field.
+    fn check_alike<F: Fn(RouteImage) -> bool>(
+        self,
+        route: RouteImage,
+        field: Field,
+        differs: F,
+    ) -> Result<(), Refusal>
+        requires { F.IsAlwaysCallable differs }
+        ensures { let text = text_of self.entry in let p = self.entry.pack.bytes.now
+            in (test : RouteImage → Bool) → Answers (F.post differs) test → result ≡ first (alike_check text p route test field ∷ []) }
+    {
+        if self.halves(route, differs) != 0 {
+            return Err(Refusal::RoutePairMismatch {
+                boundary: route.boundary,
+                field,
+            });
+        }
+        Ok(())
     }
 
     // One half in, one half out, of one domain and one delay.
-    #[tactic(auto, unfolding(answers::specs::Checks::first))]
-    fn check_pair(self, route: RouteImage) -> Outcome
+    fn check_pair(self, route: RouteImage) -> Result<(), Refusal>
         ensures { result ≡ first (pair_checks (text_of self.entry) self.entry.pack.bytes.now route) }
     {
-        let boundary = route.boundary;
-        if 1 < self.halves(route, Half::Inbound) {
-            return Outcome::Refused(Refusal::DuplicateRouteHalf {
-                boundary,
-                direction: 0,
-            });
-        }
-        if 1 < self.halves(route, Half::Outbound) {
-            return Outcome::Refused(Refusal::DuplicateRouteHalf {
-                boundary,
-                direction: 1,
-            });
-        }
-        if self.halves(route, Half::OtherDomain) != 0 {
-            return Outcome::Refused(Refusal::RoutePairMismatch {
-                boundary,
-                field: field::TIMING_DOMAIN,
-            });
-        }
-        if self.halves(route, Half::OtherDelay) != 0 {
-            return Outcome::Refused(Refusal::RoutePairMismatch {
-                boundary,
-                field: field::DELAY_NANOS,
-            });
-        }
-        Outcome::Passed
+        let other_domain = |c: RouteImage| c.timing_domain != route.timing_domain;
+        let other_delay = |c: RouteImage| c.delay_nanos != route.delay_nanos;
+        self.check_one_way(route, RouteDirection::Inbound)?;
+        self.check_one_way(route, RouteDirection::Outbound)?;
+        self.check_alike(route, Field::TimingDomain, other_domain)?;
+        self.check_alike(route, Field::DelayNanos, other_delay)
     }
 
     // The checks of record n.
     #[tactic(auto, unfolding(answers::specs::Checks::first, crate::specs::RoutePairs::route_record_checks))]
-    fn check_record(self, n: u32) -> Outcome
+    fn check_record(self, n: u32) -> Result<(), Refusal>
         ensures { result ≡ first (route_record_checks (text_of self.entry) self.entry.pack.bytes.now n) }
     {
-        if !self.pack.is_of(RouteImage::TABLE, n as usize) {
-            return Outcome::Passed;
+        match self.route(n) {
+            Some(route) => self.check_pair(route),
+            None => Ok(()),
         }
-        self.check_pair(RouteImage::at(self.pack, n as usize))
     }
 }
 
 // Every route's checks, in the order of the records: only the first at fault is compared with all.
 #[tactic(auto, using(crate::proofs::FirstFault::fault_first, crate::proofs::FirstFault::fault_none))]
-pub fn validate_federate_route_pairs(pack: Pack, batch: &[u8], house: &[u8]) -> Outcome
-    ensures { let p = pack.entry.bytes.now in result ≡ first (run (route_record_checks (identity_text batch.now house.now) p) 0 (records_of p)) }
+pub fn validate_federate_route_pairs(pack: Pack, texts: Texts) -> Result<(), Refusal>
+    ensures { let p = pack.entry.bytes.now in let text = identity_text texts.entry.batch.now texts.entry.house.now
+        in result ≡ first (run (route_record_checks text p) 0 (records_of p)) }
 {
-    let routes = Routes { pack, batch, house };
-    let n = routes.first_fault();
-    if n < records_of(pack.bytes) {
-        return routes.check_record(n);
+    let routes = Routes { pack, texts };
+    match routes.first_fault() {
+        Some(n) => routes.check_record(n),
+        None => Ok(()),
     }
-    Outcome::Passed
 }

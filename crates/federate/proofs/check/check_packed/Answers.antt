@@ -1,28 +1,31 @@
 -- Each place where the checks of a packed federate can stop, by its law.
-use Rattle.std.proofs.Common.{ap, ◌∙◌}
-use Rattle.federate.specs.Answer.{federate_numbers}
-use Rattle.federate.proofs.Whole.{own_refused, enclaves_refused, routes_refused, accepted}
+use Rattle.std.proofs.Common.{◌≡◌, sym, rules, arith}
+use Rattle.std.specs.Prelude.{Ok, Err}
+use Rattle.answers.specs.Checks.{first, passed}
+use Rattle.federate.proofs.Whole.{own, routes, found, own_refused, enclaves_refused, routes_refused, accepted}
 use Rattle.federate.proofs.check.check_packed.Goals as goal
 
-pub returns-in_default : goal.returns-in_default
-returns-in_default c =
-    ap federate_numbers c.refused.ensures
-    ∙ own_refused c.args.pack.bytes.now c.args.batch.now c.args.house.now c.at-federate.result c.at-federate.ensures c.count_enclaves-enclaves.result c.count_enclaves-enclaves.ensures
-    c.check_own_record-own.result c.check_own_record-own.ensures c.in_default.not-Passed
+pub returns-in_err-check_own_record : goal.returns-in_err-check_own_record
+returns-in_err-check_own_record c =
+    let h : first (own c.args.pack.bytes.now c.args.texts.batch.now c.args.texts.house.now) ≡ Err c.in_err-check_own_record.field-0.0 = search rules in
+    grind (arith, own_refused c.args.pack.bytes.now c.args.texts.batch.now c.args.texts.house.now h)
 
-pub returns-in-Refused : goal.returns-in-Refused
-returns-in-Refused c =
-    enclaves_refused c.args.pack.bytes.now c.args.batch.now c.args.house.now c.at-federate.result c.at-federate.ensures c.count_enclaves-enclaves.result c.count_enclaves-enclaves.ensures
-    c.in-Passed.ensures c.in-Refused.r c.in-Refused.ensures
+pub returns-in_err-links : goal.returns-in_err-links
+returns-in_err-links c =
+    let a : first (own c.args.pack.bytes.now c.args.texts.batch.now c.args.texts.house.now) ≡ passed = search rules in
+    let h : found c.args.pack.bytes.now c.args.texts.batch.now c.args.texts.house.now ≡ Err c.in_err-links.field-0.0 = search rules in
+    grind (arith, enclaves_refused c.args.pack.bytes.now c.args.texts.batch.now c.args.texts.house.now a h)
 
-pub returns-in_default-pairs : goal.returns-in_default-pairs
-returns-in_default-pairs c =
-    ap federate_numbers c.refused-in_default-pairs.ensures
-    ∙ routes_refused c.args.pack.bytes.now c.args.batch.now c.args.house.now c.at-federate.result c.at-federate.ensures c.count_enclaves-enclaves.result c.count_enclaves-enclaves.ensures
-    c.in-Passed.ensures c.in-Accepted.links c.in-Accepted.ensures
-    c.validate_federate_route_pairs-pairs.result c.validate_federate_route_pairs-pairs.ensures c.in_default-pairs.not-Passed
+pub returns-in_err-validate_federate_route_pairs : goal.returns-in_err-validate_federate_route_pairs
+returns-in_err-validate_federate_route_pairs c =
+    let a : first (own c.args.pack.bytes.now c.args.texts.batch.now c.args.texts.house.now) ≡ passed = search rules in
+    let b : found c.args.pack.bytes.now c.args.texts.batch.now c.args.texts.house.now ≡ Ok c.in_ok-links.links = search rules in
+    let h : first (routes c.args.pack.bytes.now c.args.texts.batch.now c.args.texts.house.now) ≡ Err c.in_err-validate_federate_route_pairs.field-0.0 = search rules in
+    grind (arith, routes_refused c.args.pack.bytes.now c.args.texts.batch.now c.args.texts.house.now a b h)
 
 pub returns : goal.returns
 returns c =
-    accepted c.args.pack.bytes.now c.args.batch.now c.args.house.now c.at-federate.result c.at-federate.ensures c.count_enclaves-enclaves.result c.count_enclaves-enclaves.ensures
-    c.in-Passed.ensures c.in-Accepted.links c.in-Accepted.ensures c.in-Passed-pairs.ensures
+    let a : first (own c.args.pack.bytes.now c.args.texts.batch.now c.args.texts.house.now) ≡ passed = search rules in
+    let b : found c.args.pack.bytes.now c.args.texts.batch.now c.args.texts.house.now ≡ Ok c.in_ok-links.links = search rules in
+    let h : first (routes c.args.pack.bytes.now c.args.texts.batch.now c.args.texts.house.now) ≡ passed = search rules in
+    rw c.count_enclaves-enclaves.ensures (sym (accepted c.args.pack.bytes.now c.args.texts.batch.now c.args.texts.house.now a b h))

@@ -1,5 +1,5 @@
 -- What the search through the records finds.
-use Rattle.std.proofs.Common.{rules, arith, ◌≡◌, true, false, ◌∙◌}
+use Rattle.std.proofs.Common.{rules, ◌≡◌, true, false, ◌∙◌}
 use Rattle.std.proofs.lemmas.Iterator.{first_from_Range}
 use Rattle.packing.specs.Starts.{reaches}
 use Rattle.packing.proofs.TableStarts.{searched}
