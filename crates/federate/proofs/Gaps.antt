@@ -6,17 +6,16 @@ use Rattle.identity.proofs.Tests.{cases}
 use Rattle.schema.specs.Records.{records_of, is_of, count_below}
 use Rattle.schema.proofs.Counts.{count_none, count_next}
 use Rattle.federate.specs.Records.{enclaves_before, enclave_before, last_before, enclave_from, enclave_end}
+use Rattle.federate.proofs.Ends.{from-within}
 
 -- from record n on, no enclave is passed over: m is the next one's record, or the end of the k records looked at
 pub record Gap (p : List ℕ) (n k m : ℕ) : Type 0 where
-  pub after : n ≤ m
-  pub within : m ≤ n + k
   pub found : m < n + k → is_of p 1 m ≡ true
   pub counted : enclaves_before p m ≡ enclaves_before p n
   pub last : enclave_before p m ≡ enclave_before p n
 
 gap-here : (p : List ℕ) (n k : ℕ) → is_of p 1 n ≡ true → Gap p n (suc k) n
-gap-here p n k t = record { after = omega arith; within = omega arith; found = λ h. t; counted = refl; last = refl }
+gap-here p n k t = record { found = λ h. t; counted = refl; last = refl }
 
 gap-on : (p : List ℕ) (n k m : ℕ) → is_of p 1 n ≡ false → Gap p (suc n) k m → Gap p n (suc k) m
 unfolding enclave_before
@@ -24,14 +23,12 @@ gap-on p n k m f g =
     let c = rw f at (count_next (is_of p 1) n) in
     let e : n + 1 ≡ suc n = add-one n in
     let d = rw e at c in
-    let after = g.after in
-    let within = g.within in
     let counted = g.counted in
-    record { after = omega arith; within = omega arith; found = λ h. g.found (omega arith); counted = omega arith; last = g.last ∙ rw f refl }
+    record { found = λ h. g.found (omega arith); counted = omega arith; last = g.last ∙ rw f refl }
 
 pub gap : (p : List ℕ) (k n : ℕ) → Gap p n k (enclave_from p n k)
 unfolding enclave_from
-gap p zero n = record { after = omega arith; within = omega arith; found = λ h. absurd (omega arith); counted = refl; last = refl }
+gap p zero n = record { found = λ h. absurd (omega arith); counted = refl; last = refl }
 gap p (suc k) n = cases (is_of p 1 n) (λ t. rw t (gap-here p n k t)) (λ f. rw f (gap-on p n k _ f (gap p k (suc n))))
 
 pub places_few : (p : List ℕ) (n : ℕ) → enclaves_before p n ≤ n
@@ -45,7 +42,7 @@ module _ (p : List ℕ) (m : ℕ) (e : m ≡ enclave_from p 0 (records_of p - 0)
   first = rw e (gap p (records_of p - 0) 0)
 
   pub start_within : m ≤ records_of p
-  start_within = let h = first.within in omega arith
+  start_within = let h = (from-within p (records_of p - 0) 0).1 in omega arith
 
   pub start_found : m < records_of p → is_of p 1 m ≡ true
   start_found l = first.found (omega arith)
@@ -65,10 +62,10 @@ module _ (p : List ℕ) (n m : ℕ) (l : n < records_of p) (t : is_of p 1 n ≡ 
   end_is = rw (e, add-one) refl
 
   pub end_after : n < m
-  end_after = let h = next.after in omega arith
+  end_after = let h = (from-within p (records_of p - (n + 1)) (n + 1)).0 in omega arith
 
   pub end_within : m ≤ records_of p
-  end_within = let h = next.within in omega arith
+  end_within = let h = (from-within p (records_of p - (n + 1)) (n + 1)).1 in omega arith
 
   pub end_found : m < records_of p → is_of p 1 m ≡ true
   end_found g = next.found (omega arith)

@@ -1,5 +1,5 @@
 -- Where a table begins: the record that reaches it first. Assumes nothing.
-use Prim.Native.Nat.{ℕ, zero, suc, ◌+◌, ◌-◌, ◌%◌, ◌<◌, ◌≤◌, max}
+use Prim.Native.Nat.{ℕ, zero, suc, ◌+◌, ◌-◌, ◌%◌, ◌<◌, ◌≤◌}
 use mathlib.Core.Bool.{Bool, true, false, not, ◌||◌, true≢false}
 use mathlib.Core.Path.{◌≡◌, refl, ◌∙◌, sym}
 use mathlib.Core.List.{List, [], ◌∷◌}
@@ -8,16 +8,12 @@ use native.Mathlib.Omega.{arith}
 use lib.Dec.{ltb, leb}
 use lib.ListN.{length, get_or, take, set, length-set, length-append, get_or-append}
 use lib.Seq.{get_or_at, take-suc-set, take_all}
-use borrow.Author.Tests.{ltb-true, ltb-false, leb-false, lt-leb, le-ltb}
-use Rattle.std.specs.Prelude.{MatchOption}
-use Rattle.std.specs.Option.{unwrap_or}
-use Rattle.std.specs.declared.option.Option.{Option}
-use Rattle.std.specs.declared.option.Option.TheVariants.{Some, None}
+use borrow.Author.Tests.{ltb-true, ltb-false, leb-false, lt-leb}
 use Rattle.identity.proofs.Tests.{cases}
 use Rattle.schema.specs.Bytes.{byte_of}
 use Rattle.schema.specs.Tables.{IsRising, EndsInside}
 use Rattle.schema.specs.Records.{records_of}
-use Rattle.schema.proofs.Counts.{records_inside}
+use Rattle.schema.proofs.Counts.{records_inside, records_few}
 use Rattle.packing.proofs.Records.{some_record}
 use Rattle.packing.specs.Starts.{reaches, first_reaching, table_start, starts_below, table_starts}
 
@@ -70,15 +66,12 @@ module _ (p : List ℕ) where
   one_more t (suc f) a h =
       cases (reaches p t a) (λ r. rw r) (λ r. rw r (one_more t f (a + 1) (omega arith)))
 
-  abbrev NoneReaches : ℕ → ℕ → ℕ → Type 0
-  NoneReaches t a e = (k : ℕ) → a ≤ k → k < e → reaches p t k ≡ false
-
   -- the search goes on from a record that does not reach the table, and ends at one that does
   search_by : (t a f : ℕ) → records_of p ≡ suc f → reaches p t a ≡ false → first_reaching p t a (records_of p) ≡ first_reaching p t (a + 1) (records_of p)
   unfolding first_reaching
   search_by t a f e r = rw (e, r) (sym (one_more t f (a + 1) (omega arith)))
 
-  search_next : (t a : ℕ) → reaches p t a ≡ false → first_reaching p t a (records_of p) ≡ first_reaching p t (a + 1) (records_of p)
+  pub search_next : (t a : ℕ) → reaches p t a ≡ false → first_reaching p t a (records_of p) ≡ first_reaching p t (a + 1) (records_of p)
   search_next t a r = let g = (not-reached t a r).0 in search_by t a (records_of p - 1) (omega arith) r
 
   found_by : (t a f : ℕ) → reaches p t a ≡ true → first_reaching p t a f ≡ a
@@ -86,18 +79,15 @@ module _ (p : List ℕ) where
   found_by t a zero r = refl
   found_by t a (suc f) r = rw r
 
-  -- the first record that reaches the table
-  first_is : (t d a i : ℕ) → a + d ≡ i → reaches p t i ≡ true → NoneReaches t a i → first_reaching p t a (records_of p) ≡ i
-  first_is t zero a i e r n = let s : a ≡ i = omega arith in rw s (found_by t i (records_of p) r)
-  first_is t (suc d) a i e r n =
-      search_next t a (n a (omega arith) (omega arith)) ∙ first_is t d (a + 1) i (omega arith) r (λ k l h. n k (omega arith) h)
+  pub search_found : (t a : ℕ) → reaches p t a ≡ true → first_reaching p t a (records_of p) ≡ a
+  search_found t a r = found_by t a (records_of p) r
 
-  -- what a search through the records finds, where all past its end reach the table
-  pub searched : (t a e n : ℕ) (r : Option ℕ) → e ≡ max n a → n ≡ records_of p → MatchOption r (NoneReaches t a e) (λ i. (a ≤ i) × (i < e) × (reaches p t i ≡ true) × NoneReaches t a i) → unwrap_or r e ≡ first_reaching p t a (records_of p)
-  searched t a e n None m g h =
-      let past : ltb e (records_of p) ≡ false = le-ltb e (records_of p) (omega arith) in
-      sym (first_is t (e - a) a e (omega arith) (rw past refl) h)
-  searched t a e n (Some i) m g (b, u, y, h) = sym (first_is t (i - a) a i (omega arith) y h)
+  pub search_inside : (t a : ℕ) → reaches p t a ≡ false → a < records_of p
+  search_inside t a r = (not-reached t a r).0
+
+  -- the number after such a record is a small one
+  pub search_small : (t a : ℕ) → reaches p t a ≡ false → a < 65536
+  search_small t a r = let g = (not-reached t a r).0 in let h = records_few p in omega arith
 
   -- a later table is searched for from where an earlier one begins
   search_on : (t u f a : ℕ) → t ≤ u → first_reaching p u (first_reaching p t a f) (records_of p) ≡ first_reaching p u a (records_of p)
@@ -107,6 +97,8 @@ module _ (p : List ℕ) where
       cases (reaches p t a)
       (λ r. rw r)
       (λ r. rw r (search_on t u f (a + 1) l ∙ sym (search_next u a (not-later t u a l r))))
+
+pub ruleset search_laws = (search_next, search_found, search_inside, search_small)
 
 -- the list of starts
 below_length : (p : List ℕ) (rows k : ℕ) → length (starts_below p rows k) ≡ k

@@ -22,12 +22,17 @@ fn reaches(p: &[u8], t: usize, k: u32) -> bool
     table < 2 || t <= usize::from(table)
 }
 
-// The first of the records from `from` on that reaches table t.
+// The first of the records from `from` on that reaches table t. By a loop: with `(from..end).find(..)` small stations, each of which has all its
+// tables searched for, take an eighth longer in ./bench.
+#[tactic(auto, using(crate::proofs::TableStarts::search_laws))]
 fn first_reaching(p: &[u8], t: usize, from: u32) -> u32
     ensures { result ≡ first_reaching p.now t from (records_of p.now) }
 {
-    let end = records_of(p).max(from);
-    (from..end).find(|k| reaches(p, t, *k)).unwrap_or(end)
+    let mut k = from;
+    while !reaches(p, t, k) {
+        k += 1;
+    }
+    k
 }
 
 // The starts of the tables in the enclave whose rows start at record `rows`.

@@ -1,5 +1,5 @@
 -- Before the first enclave, a refusal, one enclave more.
-use Rattle.std.proofs.Common.{◌≡◌, ◌<◌, true, List, ℕ, rules, arith}
+use Rattle.std.proofs.Common.{◌≡◌, ◌<◌, true, ℕ, rules, arith}
 use Rattle.std.specs.Prelude.{Ok, Err}
 use Rattle.schema.specs.Records.{records_of, is_of}
 use Rattle.federate.specs.Records.{enclave_from, enclave_end}
@@ -14,7 +14,6 @@ loop-enclave-init c =
 
 pub returns-in_err-links : goal.returns-in_err-links
 returns-in_err-links c =
-    let p : List ℕ = c.args.pack.bytes.now in
     let n : ℕ = c.loop-enclave.enclave-iterator.next in
     let l : n < records_of c.args.pack.bytes.now = search rules in
     let t : is_of c.args.pack.bytes.now 1 n ≡ true = search rules in
