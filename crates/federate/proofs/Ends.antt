@@ -5,6 +5,7 @@ use Rattle.std.proofs.Math.Seq.{length-take-le}
 use Rattle.std.specs.Prelude.{Option, Some, None, MatchOption}
 use Rattle.std.specs.Option.{unwrap_or}
 use Rattle.route_pairs.proofs.Tests.{same_or}
+use Rattle.schema.specs.Bytes.{Whole}
 use Rattle.schema.specs.Records.{records_of, is_of}
 use Rattle.schema.proofs.Counts.{records_inside}
 use Rattle.federate.specs.Records.{enclave_from, enclave_end, enclave_pack}
@@ -77,7 +78,15 @@ part-length p n l =
 pub part_whole : (p : List ℕ) (n end : ℕ) → n < records_of p → end ≡ enclave_end p n → length (take (end * 64 - n * 64) (drop (n * 64) p)) % 64 ≡ 0
 part_whole p n end l e = rw (part_is p n end l e, part-length p n l) (omega arith)
 
+pub part-whole : (p : List ℕ) (n : ℕ) → n < records_of p → Whole (enclave_pack p n)
+part-whole p n l = rw (part-length p n l) (omega arith)
+
 -- its own at least
+pub part-some : (p : List ℕ) (n : ℕ) → n < records_of p → 0 < length (enclave_pack p n) / 64
+part-some p n l =
+    let a = (end-within p n l).0 in
+    rw (part-length p n l) (omega arith)
+
 pub part_some : (p : List ℕ) (n : ℕ) → n < records_of p → 0 < length (enclave_pack p n)
 part_some p n l =
     let a = (end-within p n l).0 in
