@@ -33,7 +33,7 @@ fn checked(following: bool, low: u32, value: u32, width: usize) -> Option<Scalar
     (following & (low <= value) & allowed).then_some(Scalar { value, width })
 }
 
-// The scalar that two bytes encode, and those of three and of four.
+// The scalar that two bytes encode, and those of three and of four: RFC 3629 has a formula for each length.
 fn two_bytes(a: u8, b: u8) -> Option<Scalar>
     ensures { result ≡ two_bytes a b }
 {

@@ -36,7 +36,8 @@ impl fmt::Display for FileError {
 
 impl Error for FileError {}
 
-// Reads until the file ends or the room is full, and answers how many bytes stand in the room.
+// Reads until the file ends or the room is full, and answers how many bytes stand in the room. By a loop: std's longer reads do not say how many
+// bytes came before the end, and ask for memory.
 fn fill<R: Read>(reader: &mut R, room: &mut [u8]) -> io::Result<usize>
     ensures { IfOk result (λ n. n ≤ length room.new) }
 {

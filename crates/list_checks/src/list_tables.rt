@@ -114,7 +114,7 @@ impl Naming for TimerStartupImage {
     }
 }
 
-// Every entry of a table names a row that is there.
+// Every entry of a table names a row that is there; below, for each kind of entry by its own definition.
 #[tactic(auto, using(answers::proofs::Loops::run_laws), unfolding(answers::specs::Checks::first, crate::specs::ListTables::named_checks))]
 fn check_named<N: Naming>(e: &Enclave, table: u8) -> Result<(), Refusal>
     requires { table < tables }

@@ -35,7 +35,7 @@ impl<'a> Routes<'a> {
         self.pack.count_of(RouteImage::TABLE) as usize
     }
 
-    // The routes, in the order of the records.
+    // The routes, in the order of the records. By a loop: `extend` answers an error of memory, which there is none of.
     #[tactic(auto, using(crate::proofs::Rows::rows_laws))]
     fn list<const ROOM: usize>(self, rows: &mut ArrayVec<u32, ROOM>)
         requires none { rows.old.items ≡ [] }
@@ -74,7 +74,7 @@ impl<'a> Routes<'a> {
         rows.sort_unstable_by(|a, b| self.order(*a, *b));
     }
 
-    // Whether the row at place j, if there is one, is of another boundary than the one at place k.
+    // Whether the row at place j, if there is one, is of another boundary than the one at place k. By places, as the definition has them.
     fn parted(self, rows: &[u32], k: usize, j: usize) -> bool
         requires { k < length rows.now }
         ensures { result ≡ parted (text_of self.entry) self.entry.pack.bytes.now rows.now k j }

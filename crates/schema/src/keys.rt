@@ -1,4 +1,4 @@
-// The index types as keys of their tables, and those that the records of lists hold.
+// The index types as keys of their tables, and those that the records of lists hold. One block for each type, since no macro may write them.
 #![tactic(auto, unfolding(crate::specs::Rows::index_at))]
 
 ghost use Rattle.std.specs.Prelude.{◌≡◌, refl};

@@ -49,7 +49,7 @@ impl<'a> Pack<'a> {
         }
     }
 
-    // How many records of a table the pack has.
+    // How many records of a table the pack has. Counted in 32 bits by the loop: `filter(..).count()` would count in 64 and be cast.
     #[tactic(auto, using(crate::proofs::Counts::count_laws))]
     pub fn count_of(self, table: u8) -> u32
         ensures count { let p = self.entry.bytes.now in result ≡ count_below (is_of p table) (records_of p) }

@@ -35,7 +35,8 @@ pub trait Stored: Copy {
     }
 }
 
-// A kind of row: what its records hold, and its table.
+// A kind of row: what its records hold, and its table. A table is a number and no enum: it is byte 0 of a record and a place among the starts, and
+// a reader finds it in the paper by that number.
 pub trait Row: Stored {
     ghost TABLE: { ℕ };
 

@@ -21,7 +21,8 @@ const MANY: usize = 4096;
 
 const MOST: usize = 65536;
 
-// The depth of a scope. None past the array is ever known: the answers are right with an array of any length.
+// The depth of a scope. None past the array is ever known: the answers are right with an array of any length. 0 stands for a depth that is not
+// known, since an `Option` would take twice the room in the frame.
 fn depth_of(depths: &[u32], scope: ScopeIndex) -> u32
     ensures { result ≡ get_or depths.now scope.0 0 }
 {
@@ -56,7 +57,7 @@ fn links_by(e: &Enclave, depths: &[u32], scope: ScopeIndex) -> u32
     scopes
 }
 
-// Writes the depth of a scope and those of the scopes above it, up to the first that is known.
+// Writes the depth of a scope and those of the scopes above it, up to the first that is known: by a loop that goes from parent to parent.
 #[tactic(auto, using(crate::proofs::LinksLaws::followed_laws, crate::proofs::DepthLaws::known_set))]
 fn settle(e: &Enclave, depths: &mut [u32], mut scope: ScopeIndex, mut depth: u32)
     requires known { Known (image_of e.now) depths.old }
