@@ -190,7 +190,7 @@ impl Recorded for RequiredBindingImage {
     }
 }
 
-// An action's kind, its period bit, and its minimum delay or period.
+// An action's kind, its period bit, and its minimum delay or period: three parts of a record, as document 01 has them.
 fn timing_fields(timing: ActionTiming) -> (u8, bool, u64)
     ensures kind { result.0 ≡ timing_kind timing }
     ensures period { result.1 ≡ has_period timing }

@@ -61,7 +61,7 @@ impl Listed for LifecycleReactionImage {
     }
 }
 
-// The row number shown for entry k of a range.
+// The row number shown for entry k of a range. A range is walked by its start and k, as document 01 counts the entries.
 pub fn entry_index(start: u32, k: u32) -> u32
     ensures { result ≡ entry_index start k }
 {
@@ -91,7 +91,8 @@ pub fn validate_level_ref(
     Ok(())
 }
 
-// An entry is above the one before it.
+// An entry is above the one before it. `check_action_order` of list_checks is of this form, by its own definition in document 01: over any order,
+// both would need a law that takes `Ord` back to it.
 fn check_level_order(
     table: u8,
     index: u32,

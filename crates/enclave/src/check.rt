@@ -24,7 +24,7 @@ pub fn check_image(e: &Enclave) -> Result<u64, Refusal>
     Ok(links)
 }
 
-// The answer of `EnclaveImageView::new` for an enclave pack and its two texts: the links, or the first fault.
+// The answer of `EnclaveImageView::new` for an enclave pack and its two texts, as a host lends them: the links, or the first fault.
 pub fn check_enclave(pack: &[u8], batch: &[u8], house: &[u8]) -> Result<u64, Refusal>
     ensures { answer_numbers result ≡ enclave_answer pack.now batch.now house.now }
 {

@@ -1,9 +1,8 @@
 // The passes one after the other, in groups: the first that refuses decides.
-ghost use Rattle.std.specs.Prelude.{◌≡◌, ◌<◌};
+ghost use Rattle.std.specs.Prelude.{◌≡◌};
 ghost use Rattle.answers.specs.Checks.{first, run};
 ghost use Rattle.checks.specs.Image.{image_of};
-ghost use Rattle.schema.specs.Tables.{tables};
-ghost use Rattle.enclave.specs.Passes.{length_table, length_checks, root_checks, enclave_id_checks, head_passes, table_passes, row_passes, reaction_list_passes, scope_list_passes, entry_passes, enclave_list_passes, list_passes, checks_of};
+ghost use Rattle.enclave.specs.Passes.{length_checks, root_checks, enclave_id_checks, head_passes, table_passes, row_passes, reaction_list_passes, scope_list_passes, entry_passes, enclave_list_passes, list_passes, checks_of};
 
 use answers::{Field, IdKind, Refusal, RowField, StableId};
 use checks::identities::validate_id;
@@ -30,35 +29,24 @@ use schema::entries::{
 use schema::index::ReactorIndex;
 use schema::lent::Enclave;
 use schema::row::{Row, Stored};
-use schema::rows::{EnclaveImage, RequiredBindingImage, RouteImage};
+use schema::rows::{
+    ActionImage, EnclaveImage, ModeImage, PortImage, ReactionImage, ReactorImage,
+    RequiredBindingImage, RouteImage, ScopeImage,
+};
 
-// The tables whose length is checked: 2 to 7, 23 and 24.
-fn length_table(i: u32) -> u8
-    ensures value { result ≡ length_table i }
-    ensures known { result < tables }
-{
-    match i {
-        0..=5 => (i + 2) as u8,
-        6 => RouteImage::TABLE,
-        _ => RequiredBindingImage::TABLE,
-    }
-}
-
-#[tactic(auto, unfolding(crate::specs::Passes::length_checks))]
-fn check_length(e: &Enclave, i: u32) -> Result<(), Refusal>
-    ensures { result ≡ first (length_checks (image_of e.now) i) }
-{
-    check_enclave_len(e.starts, length_table(i))
-}
-
-#[tactic(auto, using(answers::proofs::Loops::run_laws))]
+// The lengths of the tables that keys name, and of routes and bindings.
+#[tactic(auto, using(answers::proofs::Laws::list_laws), unfolding(answers::specs::Checks::first, answers::specs::Checks::run, crate::specs::Passes::length_checks))]
 fn check_lengths(e: &Enclave) -> Result<(), Refusal>
     ensures { result ≡ first (run (length_checks (image_of e.now)) 0 8) }
 {
-    for i in 0..8 {
-        check_length(e, i)?;
-    }
-    Ok(())
+    check_enclave_len(e.starts, ReactorImage::TABLE)?;
+    check_enclave_len(e.starts, ActionImage::TABLE)?;
+    check_enclave_len(e.starts, PortImage::TABLE)?;
+    check_enclave_len(e.starts, ReactionImage::TABLE)?;
+    check_enclave_len(e.starts, ModeImage::TABLE)?;
+    check_enclave_len(e.starts, ScopeImage::TABLE)?;
+    check_enclave_len(e.starts, RouteImage::TABLE)?;
+    check_enclave_len(e.starts, RequiredBindingImage::TABLE)
 }
 
 #[tactic(auto, unfolding(answers::specs::Checks::first, answers::specs::Checks::run))]

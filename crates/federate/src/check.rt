@@ -41,7 +41,7 @@ fn check_packed(pack: Pack, texts: Texts) -> Result<FederateAccepted, Refusal>
     Ok(FederateAccepted { enclaves, links })
 }
 
-// The answer of `FederateImageView::new` for a federate pack and its two texts: what is accepted, or the first fault.
+// The answer of `FederateImageView::new` for a federate pack and its two texts, as a host lends them: what is accepted, or the first fault.
 pub fn check_federate(pack: &[u8], batch: &[u8], house: &[u8]) -> Result<FederateAccepted, Refusal>
     ensures { federate_numbers result ≡ federate_answer pack.now batch.now house.now }
 {

@@ -12,7 +12,7 @@ use identity::texts::Texts;
 use schema::row::Row;
 use schema::rows::FederateImage;
 
-// The number that stands for the table of a federate's span: the keys of enclaves.
+// The number that stands for the table of a federate's span, which document 01 gives: the keys of enclaves.
 const ENCLAVE_KEYS: u8 = 255;
 
 const MAX_ENCLAVES: u64 = 0x1_0000_0000;

@@ -13,7 +13,7 @@ pub fn count_enclaves(pack: Pack) -> u32
     pack.count_of(EnclaveImage::TABLE)
 }
 
-// The first enclave's record from n on; where there is none, the number of records, or n past it.
+// The first enclave's record from n on; where there is none, the number of records, or n past it: there the enclave before ends.
 #[tactic(auto, using(crate::proofs::Ends::searched))]
 pub fn next_enclave(pack: Pack, n: usize) -> usize
     ensures { let p = pack.entry.bytes.now in result ≡ enclave_from p n (records_of p - n) }

@@ -8,6 +8,7 @@ pub const LIMIT: usize = 65_536;
 pub const ROOM: usize = LIMIT + 1;
 
 // A file that was read: so many bytes of it stand at the start of the room, and the file ends there.
+// No `ArrayVec`: reading fills a slice that is there.
 #[derive(Drop)]
 pub struct File {
     pub room: [u8; ROOM],

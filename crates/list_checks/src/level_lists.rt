@@ -123,6 +123,7 @@ fn check_listed_entries<L: Listed>(e: &Enclave, table: u8) -> Result<(), Refusal
     Ok(())
 }
 
+// This and the next: each kind of entry by its own definition.
 #[tactic(auto, unfolding(crate::specs::ListTables::level_entry_checks))]
 pub fn check_level_entries<R: Row>(e: &Enclave) -> Result<(), Refusal>
     requires { R.TABLE < tables }

@@ -19,7 +19,7 @@ use schema::lent::Enclave;
 use schema::row::{Key, Row, Stored};
 use schema::rows::ReactionImage;
 
-// An entry that names a row of another table, in a field.
+// An entry that names a row of another table, in a field. One block for each type, since no macro may write them.
 pub trait Naming: Stored {
     type Named: Key;
 
@@ -114,7 +114,8 @@ impl Naming for TimerStartupImage {
     }
 }
 
-// Every entry of a table names a row that is there; below, for each kind of entry by its own definition.
+// Every entry of a table names a row that is there. Below, for each kind of entry by its own definition: over this one alone, each pass of
+// an enclave would take the kind's definition apart.
 #[tactic(auto, using(answers::proofs::Loops::run_laws), unfolding(answers::specs::Checks::first, crate::specs::ListTables::named_checks))]
 fn check_named<N: Naming>(e: &Enclave, table: u8) -> Result<(), Refusal>
     requires { table < tables }

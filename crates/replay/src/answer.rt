@@ -4,6 +4,7 @@ use answers::Refusal;
 use enclave::check::check_enclave;
 use federate::FederateAccepted;
 use federate::check::check_federate;
+use packing::PackKind;
 use std::fmt;
 
 #[derive(Clone, Copy, Debug)]
@@ -15,9 +16,9 @@ pub enum Answer {
 
 pub fn answer_of(case: Case) -> Answer {
     match case.kind {
-        0 => Answer::Enclave(check_enclave(case.pack, case.batch, case.house)),
-        1 => Answer::Federate(check_federate(case.pack, case.batch, case.house)),
-        _ => Answer::UnknownKind,
+        Some(PackKind::Enclave) => Answer::Enclave(check_enclave(case.pack, case.batch, case.house)),
+        Some(PackKind::Federate) => Answer::Federate(check_federate(case.pack, case.batch, case.house)),
+        None => Answer::UnknownKind,
     }
 }
 

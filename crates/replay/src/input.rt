@@ -1,11 +1,12 @@
 // Reading a corpus, case by case. Its numbers go high byte first.
+use packing::PackKind;
 use std::io;
 use std::io::{BufRead, ErrorKind, Read};
 
-// A case: its first byte, and what was kept of each part.
+// A case: the kind of its pack, if its first byte is one, and what was kept of each part.
 #[derive(Clone, Copy)]
 pub struct Case<'a> {
-    pub kind: u8,
+    pub kind: Option<PackKind>,
     pub pack: &'a [u8],
     pub batch: &'a [u8],
     pub house: &'a [u8],
@@ -59,9 +60,17 @@ pub struct Room<'a> {
     pub house: &'a mut [u8],
 }
 
-// Takes the parts of a case whose first byte is `kind`.
+fn kind_of(first: u8) -> Option<PackKind> {
+    match first {
+        0 => Some(PackKind::Enclave),
+        1 => Some(PackKind::Federate),
+        _ => None,
+    }
+}
+
+// Takes the parts of a case of that kind.
 fn read_parts<'a, R: Read>(
-    kind: u8,
+    kind: Option<PackKind>,
     input: &mut R,
     room: &'a mut Room,
 ) -> Result<Case<'a>, ReadError> {
@@ -87,6 +96,6 @@ pub fn read_case<'a, R: BufRead>(
     }
     let mut kind = [0u8; 1];
     input.read_exact(&mut kind).map_err(ReadError::Failed)?;
-    let case = read_parts(kind[0], input, room)?;
+    let case = read_parts(kind_of(kind[0]), input, room)?;
     Ok(Some(case))
 }

@@ -2,7 +2,8 @@
 ghost use Rattle.std.specs.Prelude.{◌≡◌, ◌<◌, ◌^◌};
 ghost use Rattle.schema.specs.Rows.{index_at, transition_of, timing_of, kind_of, direction_of, domain_of};
 
-// A tuple struct for each table, since a key of one table is none of another's.
+// A tuple struct for each table, since a key of one table is none of another's. One struct over a row type would need its own impls of all that is
+// derived here.
 #[derive(Clone, Copy, Default, PartialEq, Eq, PartialOrd, Ord)]
 pub struct ReactorIndex(pub u32);
 
@@ -104,7 +105,7 @@ impl From<u8> for BindingKind {
 }
 
 impl ActionTiming {
-    // By byte 2, the period bit, and the minimum delay or the period.
+    // By byte 2, the period bit, and the minimum delay or the period: three parts of a record, as document 01 has them.
     pub fn of(kind: u8, period: bool, nanos: u64) -> ActionTiming
         ensures { result ≡ timing_of kind period nanos }
     {
@@ -125,11 +126,11 @@ impl ActionTiming {
     }
 }
 
-impl RouteDirection {
-    // By the outbound bit.
-    pub fn of(outbound: bool) -> RouteDirection
-        ensures { result ≡ direction_of outbound }
-    {
+// By the outbound bit.
+impl From<bool> for RouteDirection {
+    ghost from_gives = { λ b r. r ≡ direction_of b };
+
+    fn from(outbound: bool) -> RouteDirection {
         if outbound {
             RouteDirection::Outbound
         } else {
@@ -138,11 +139,11 @@ impl RouteDirection {
     }
 }
 
-impl TimingDomain {
-    // By the physical bit.
-    pub fn of(physical: bool) -> TimingDomain
-        ensures { result ≡ domain_of physical }
-    {
+// By the physical bit.
+impl From<bool> for TimingDomain {
+    ghost from_gives = { λ b r. r ≡ domain_of b };
+
+    fn from(physical: bool) -> TimingDomain {
         if physical {
             TimingDomain::Physical
         } else {

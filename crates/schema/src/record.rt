@@ -23,6 +23,7 @@ pub fn has_bit(b: u8, k: u32) -> bool
 }
 
 impl<'a> Record<'a> {
+    // This and the numbers below each ask for room of their own width: a type of places would ask for the same when one is made.
     pub fn byte(self, j: usize) -> u8
         requires { j < 64 }
         ensures { result ≡ byte_of self.entry.bytes.now self.entry.number j }

@@ -7,7 +7,7 @@ ghost use Rattle.schema.specs.Rows.{index_at};
 use crate::lent::{Enclave, Pack};
 use crate::record::Record;
 
-// What a record holds.
+// What a record holds. `empty` is a type's `Default` where it has one: the trait says what it reads as, which `Default` does not.
 pub trait Stored: Copy {
     // What record n of a pack holds.
     ghost at: { List ℕ → ℕ → Self };
@@ -36,7 +36,7 @@ pub trait Stored: Copy {
 }
 
 // A kind of row: what its records hold, and its table. A table is a number and no enum: it is byte 0 of a record and a place among the starts, and
-// a reader finds it in the paper by that number.
+// a reader finds it in the paper by that number. That it is one of the 25 is asked where it counts: `Entry` is a row for any number.
 pub trait Row: Stored {
     ghost TABLE: { ℕ };
 
@@ -62,7 +62,7 @@ pub trait ListKey: Key + Stored {
 }
 
 impl<'a> Enclave<'a> {
-    // How many rows a table has.
+    // How many rows a table has. Rows are walked by `for i in 0..`: a refusal shows the number, and a key is made of it.
     pub fn rows(&self, table: u8) -> u32
         requires { table < tables }
         ensures { result ≡ rows_of self.now.starts.now.firsts table }

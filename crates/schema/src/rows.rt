@@ -376,8 +376,8 @@ impl Stored for RouteImage {
         RouteImage {
             boundary: from.place(from.has(0), 4),
             local_port: PortIndex(from.word(12)),
-            direction: RouteDirection::of(has_bit(kinds, 0)),
-            timing_domain: TimingDomain::of(has_bit(kinds, 1)),
+            direction: RouteDirection::from(has_bit(kinds, 0)),
+            timing_domain: TimingDomain::from(has_bit(kinds, 1)),
             delay_nanos: from.long(16),
         }
     }

@@ -19,7 +19,7 @@ use schema::index::ScopeIndex;
 use schema::lent::{Enclave, TableStarts};
 use schema::rows::ScopeImage;
 
-// One running end for each range of a row; before the first row each is 0.
+// One running end for each range of a row; before the first row each is 0. A reaction's are `ReactionEnds`: the fields have the ranges' names.
 #[derive(Clone, Copy, Default)]
 pub struct ScopeEnds {
     pub descendants: u64,
@@ -135,7 +135,7 @@ pub fn moved_row(
     moved_ends(e.starts, key, row, ends)
 }
 
-// A row, with the ends moved on where they stand; where it is refused they stay.
+// A row, with the ends moved on where they stand; where it is refused they stay, which the two above cannot say.
 pub fn check_scope_row(
     e: &Enclave,
     key: ScopeIndex,

@@ -1,4 +1,5 @@
-// The checks of the rows of scopes with their six running ends, and the walk of their parents.
+// The checks of the rows of scopes with their six running ends, and the walk of their parents. A row goes with
+// its key, which a refusal shows: the row is read once, and a struct of the two would be taken apart in each check.
 #![tactic(auto)]
 
 pub mod ends;
