@@ -7,3 +7,4 @@ pub mod Utf8
 pub mod Valid
 pub mod Order
 pub mod Window
+pub mod Walk

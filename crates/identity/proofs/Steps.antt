@@ -6,7 +6,7 @@ use native.Mathlib.Nat.{add-zero, add-suc}
 use native.Mathlib.Numerals.{add-one}
 use native.Mathlib.Omega.{arith}
 use borrow.Author.Tests.{not-true}
-use Rattle.identity.specs.Scan.{every, Run, Passed, Stepped}
+use Rattle.identity.specs.Scan.{every, Run, Stepped}
 use Rattle.identity.proofs.Tests.{below_or_not, failed, both, and-true, and_assoc}
 
 every-add : (test : ℕ → Bool) (o i k : ℕ) → every test o (i + k) ≡ every test o i && every test (o + i) k
@@ -60,13 +60,6 @@ along test P o (suc k) f e p =
     let b = both (every test o k) (test (o + k)) e in
     let n : (o + k) + 1 ≡ o + suc k = omega arith in
     rw n at (f (o + k) (omega arith) (omega arith) b.1 (along test P o k (λ j l h. f j l (omega arith)) b.0 p))
-
-pub passed_none : (good : ℕ → Bool) (end i : ℕ) → i ≤ end → Passed good end i 0
-passed_none good end i h = record { inside = omega arith; same = rw add-zero }
-
--- a step over bytes that were passed over
-pub passed-step : {good : ℕ → Bool} {end i w : ℕ} → Passed good end i w → (w ≡ 0 → ⊥) → Stepped good end i w
-passed-step p d = record { inside = p.inside; forward = omega arith; same = p.same }
 
 -- what is so at o, and not k places on
 pub not_there : (test : ℕ → Bool) (o k : ℕ) (b : Bool) → test o ≡ true → b ≡ test (o + k) → not b ≡ true → 1 ≤ k

@@ -12,7 +12,7 @@ use Rattle.identity.specs.Scan.{every, ascii_at, Stepped, utf8_from}
 use Rattle.identity.proofs.Tests.{both}
 use lib.Dec.{ltb}
 use borrow.Author.Tests.{ltb-true}
-use Rattle.identity.proofs.Steps.{along, passed-step, Kept, kept_laws}
+use Rattle.identity.proofs.Steps.{along, Kept}
 use Rattle.identity.proofs.Scalar.{ascii-scalar, width-at, ends_at, decode-at, decode-none, decode-end}
 
 some-before : (v : ℕ) (x : Option (List ℕ)) → is_some (before v x) ≡ is_some x
@@ -31,22 +31,15 @@ module _ (s : List ℕ) (i : ℕ) (h : i < length s) where
   utf8-scalar e =
       record { inside = ends_at s i h (sym e); forward = (width-at s i (sym e)).0; same = over-scalar s i h (sym e) }
 
-pub ruleset step_laws = (passed-step, utf8-none)
-
 pub utf8-end : (s : List ℕ) (i : ℕ) → Kept (utf8 s) (utf8_from s) (length s) i → length s ≤ i → true ≡ utf8 s
 utf8-end s i p h = sym (p.same ∙ ap is_some (decode-end s i h))
 
-pub utf8-start : (s : List ℕ) → Kept (utf8 s) (utf8_from s) (length s) 0
-utf8-start s = record { inside = omega arith; same = refl }
-
 -- a text of ASCII alone
-pub utf8-ascii : (s : List ℕ) (a : Bool) → a ≡ every (ascii_at true s) 0 (length s) → a ≡ true → true ≡ utf8 s
-utf8-ascii s a e t =
+pub utf8_ascii : (s : List ℕ) (a : Bool) → a ≡ every (ascii_at true s) 0 (length s) → a ≡ true → true ≡ utf8 s
+utf8_ascii s a e t =
     sym (along (ascii_at true s) (λ j. utf8 s ≡ utf8_from s j) 0 (length s)
     (λ j _ l q r.
     let n = ltb-true (get_or s j 0) 0x80 (both (ltb (get_or s j 0) 0x80) true q).0 in
     r ∙ over-scalar s j (omega arith) (ascii-scalar s j (omega arith)))
     (sym e ∙ t) refl
     ∙ ap is_some (decode-end s (0 + length s) (omega arith)))
-
-pub ruleset utf8_laws = (utf8-ascii, utf8-start, utf8-end, kept_laws)

@@ -16,8 +16,8 @@ use Rattle.identity.specs.Identity.{no_control, last, valid_scalars, valid_text,
 use Rattle.identity.specs.Scan.{every, printable, ascii_at, refused, Stepped, id_from}
 use Rattle.identity.proofs.Tests.{cases, both, and-false, within-true, within_in}
 use Rattle.identity.proofs.Unicode.{printable-no-control, visible-no-space}
-use Rattle.identity.proofs.Steps.{along, passed-step, Kept, kept_laws}
-use Rattle.identity.proofs.Scalar.{ascii-scalar, width-at, ends_at, next_fits, decode-at, decode-none, decode-end}
+use Rattle.identity.proofs.Steps.{along, Kept}
+use Rattle.identity.proofs.Scalar.{ascii-scalar, width-at, ends_at, decode-at, decode-none, decode-end}
 
 abbrev none_left : List ℕ → Bool
 none_left [] = true
@@ -129,11 +129,6 @@ module _ (s : List ℕ) (i : ℕ) (h : i < length s) where
           same = over-scalar s i h (sym e) (sym g ∙ t);
         }
 
-pub ruleset step_laws = (passed-step, next_fits, id-none, id-refused, id-scalar)
-
-pub id-start : (s : List ℕ) → Kept (valid_id s) (id_from s) (length s) 0
-id-start s = record { inside = omega arith; same = refl }
-
 pub id-end : (s : List ℕ) (i : ℕ) → Kept (valid_id s) (id_from s) (length s) i → length s ≤ i → not (eqb i 0) ≡ valid_id s
 id-end s i p h =
     sym (p.same ∙ rest-is (eqb i 0) (decode (drop i s)) ∙ ap (valid_rest_text (eqb i 0)) (decode-end s i h))
@@ -170,5 +165,3 @@ id_plain s a d first final e t =
         let y = eqb-true (j + 1) (length s) (rw x at w) in
         let z : length s - 1 ≡ j = omega arith in
         rw z at final)
-
-pub ruleset id_laws = (id-start, id-end, kept_laws)

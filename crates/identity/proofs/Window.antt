@@ -9,10 +9,10 @@ use lib.ListN.{length, get_or}
 use borrow.Author.Tests.{ltb-true, ltb-false, leb-false, le-leb, lt-leb, eq-eqb, ne_eqb, not-true}
 use Rattle.identity.specs.Utf8.{allowed, follows, value_of_two, value_of_three, value_of_four, scalar, scalar_at}
 use Rattle.identity.specs.Unicode.{control}
-use Rattle.identity.specs.Scan.{ascii, printable, Run, Passed, utf8_from, id_from}
+use Rattle.identity.specs.Scan.{ascii, printable, Run, utf8_from, id_from, rest_from}
 use Rattle.identity.specs.Window.{due, low_after, high_after, second, starts, fits_at, quiet_at}
 use Rattle.identity.proofs.Tests.{cases, below_or_not, failed, both, neither, or-true, within-true, within_in, within-above}
-use Rattle.identity.proofs.Steps.{every-at, passed_none}
+use Rattle.identity.proofs.Steps.{every-at}
 use Rattle.identity.proofs.Unicode.{printable-no-control}
 use Rattle.identity.proofs.Scalar.{ascii-scalar, by_two, by_three, by-four, Follows, follow, is-follow, checked-scalar, width-at}
 use Rattle.identity.proofs.Utf8 as utf8
@@ -258,6 +258,11 @@ module _ (any : Bool) (s : List ℕ) (e : ℕ) (z : quiet_at s e ≡ true) (good
       ∙ climb n (i + o.wide) (omega arith) (omega arith) v (λ j x y. fit j (omega arith) y) o.quiet)
       (λ t. let k : i ≡ e = omega arith in rw k)
 
+-- over the w bytes from i, perhaps none: the rest from i is good exactly where the rest after them is
+pub record Passed (good : ℕ → Bool) (end i w : ℕ) : Type 0 where
+  pub inside : i + w ≤ end
+  pub same : good i ≡ good (i + w)
+
 module _ (any : Bool) (s : List ℕ) (i k w : ℕ) (l : 3 ≤ i) (run : Run (fits_at any s) i k (length s - 1)) (h : w ≤ k) (q : quiet_at s i ≡ true) (z : quiet_at s (i + w) ≡ true) where
   within : i + w ≤ length s - 1
   within = let r = run.inside in omega arith
@@ -269,12 +274,12 @@ module _ (any : Bool) (s : List ℕ) (i k w : ℕ) (l : 3 ≤ i) (run : Run (fit
         same = climb any s (i + w) z good step w i (omega arith) l (omega arith) (λ j x y. every-at (fits_at any s) i k j run.all x (omega arith)) q;
       }
 
-  pub passed-utf8 : Passed (utf8_from s) (length s) i w
+  passed-utf8 : Passed (utf8_from s) (length s) i w
   passed-utf8 =
       passed (utf8_from s)
       (λ j v n t u e _. let r = within in let m = (width-at s j e).0 in utf8.over-scalar s j (omega arith) e)
 
-  pub passed-id : any ≡ false → Passed (id_from s) (length s) i w
+  passed-id : any ≡ false → Passed (id_from s) (length s) i w
   passed-id none =
       passed (id_from s)
       (λ j v n t u e f.
@@ -284,4 +289,6 @@ module _ (any : Bool) (s : List ℕ) (i k w : ℕ) (l : 3 ≤ i) (run : Run (fit
       let y : eqb (j + n) (length s) ≡ false = ne_eqb (j + n) (length s) (λ y. omega arith) in
       valid.over-scalar s j (omega arith) e (rw (f none, x, y)))
 
-pub ruleset passed_laws = (passed_none, passed-utf8, passed-id)
+pub passed_rest : (any : Bool) (s : List ℕ) (i k w : ℕ) → 3 ≤ i → Run (fits_at any s) i k (length s - 1) → w ≤ k → quiet_at s i ≡ true → quiet_at s (i + w) ≡ true → Passed (rest_from any s) (length s) i w
+passed_rest true s i k w l run h q z = passed-utf8 true s i k w l run h q z
+passed_rest false s i k w l run h q z = passed-id false s i k w l run h q z refl

@@ -30,11 +30,6 @@ pub record Run (test : ℕ → Bool) (o k end : ℕ) : Type 0 where
   pub inside : o + k ≤ end
   pub all : every test o k ≡ true
 
--- Over the w bytes from i, perhaps none: the rest from i is good exactly where the rest after them is.
-pub record Passed (good : ℕ → Bool) (end i w : ℕ) : Type 0 where
-  pub inside : i + w ≤ end
-  pub same : good i ≡ good (i + w)
-
 -- A step of w bytes from i, at least one: the rest from i is good exactly where the rest after them is.
 pub record Stepped (good : ℕ → Bool) (end i w : ℕ) : Type 0 where
   pub inside : i + w ≤ end
@@ -48,6 +43,10 @@ utf8_from s i = utf8 (drop i s)
 -- The rest of s from i may end an identity: with a letter before it, where it is not the whole, it is one.
 abbrev pub id_from : List ℕ → ℕ → Bool
 id_from s i = valid_text (cond (eqb i 0) (decode (drop i s)) (before 0x61 (decode (drop i s))))
+
+-- The rest of s from i is such: UTF-8 where any scalar may stand, else what may end an identity.
+abbrev pub rest_from : Bool → List ℕ → ℕ → Bool
+rest_from any s i = cond any (utf8_from s i) (id_from s i)
 
 -- A scalar that no identity has at that place: a control, or white space at an edge.
 abbrev pub refused : ℕ → Bool → Bool

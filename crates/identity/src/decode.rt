@@ -57,6 +57,7 @@ fn four_bytes(a: u8, b: u8, c: u8, d: u8) -> Option<Scalar>
 }
 
 // The scalar that starts at `at`; none where the bytes there encode none.
+// `at` is the place of the one scalar read, here and in `scan`: a type of text and place, made anew at each step, would be no plainer.
 #[tactic(auto, unfolding(crate::specs::Utf8::scalar_at))]
 pub fn utf8_scalar(text: &[u8], at: usize) -> Option<Scalar>
     requires { at < length text.now }

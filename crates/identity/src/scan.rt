@@ -2,26 +2,26 @@
 ghost use Rattle.std.specs.Prelude.{◌≡◌, true, false, ◌+◌, ◌-◌, ◌<◌, ◌≤◌, length, IfSome, IfNone};
 ghost use Rattle.identity.specs.Utf8.{utf8};
 ghost use Rattle.identity.specs.Identity.{valid_id};
-ghost use Rattle.identity.specs.Scan.{ascii, every, ascii_at, refused, Run, Passed, Stepped, utf8_from, id_from};
+ghost use Rattle.identity.specs.Scan.{ascii, every, ascii_at, refused, Run, Stepped, rest_from};
 ghost use Rattle.identity.specs.Window.{due, second, starts, fits, fits_at, quiet_at};
 
 use crate::decode::{follows, unicode_control, unicode_whitespace, utf8_scalar};
 
-// ASCII; a control only where `any` may stand.
-fn ascii(any: bool, b: u8) -> bool
-    ensures { result ≡ ascii any b }
+// ASCII; a control only where `ANY` may stand.
+fn ascii<const ANY: bool>(b: u8) -> bool
+    ensures { result ≡ ascii ANY b }
 {
-    (b < 0x80) & (any | ((0x20 <= b) & (b <= 0x7E)))
+    (b < 0x80) & (ANY | ((0x20 <= b) & (b <= 0x7E)))
 }
 
 // Whether every byte is such: no branch among them, so that many are tested at once. (`all` would stop at the first that is not.)
 #[tactic(auto, using(crate::proofs::Steps::block_laws))]
-fn all_ascii(any: bool, text: &[u8]) -> bool
-    ensures { result ≡ every (ascii_at any text.now) 0 (length text.now) }
+fn all_ascii<const ANY: bool>(text: &[u8]) -> bool
+    ensures { result ≡ every (ascii_at ANY text.now) 0 (length text.now) }
 {
     let mut all = true;
     for b in text {
-        all &= ascii(any, *b);
+        all &= ascii::<ANY>(*b);
     }
     all
 }
@@ -33,29 +33,29 @@ fn due(p: u8, q: u8, r: u8) -> bool
     (0xC0 <= p) | ((0xE0 <= q) | (0xF0 <= r))
 }
 
-// Whether some scalar has b after p; a control only where `any` may stand.
-fn second(any: bool, b: u8, p: u8) -> bool
-    ensures { result ≡ second any b p }
+// Whether some scalar has b after p; a control only where `ANY` may stand.
+fn second<const ANY: bool>(b: u8, p: u8) -> bool
+    ensures { result ≡ second ANY b p }
 {
-    let free = any | !((p == 0xC2) & (b < 0xA0));
+    let free = ANY | !((p == 0xC2) & (b < 0xA0));
     let low = ((p == 0xE0) & (b < 0xA0)) | ((p == 0xF0) & (b < 0x90));
     let high = ((p == 0xED) & (0xA0 <= b)) | ((p == 0xF4) & (0x90 <= b));
     follows(b) & (free & !low & !high)
 }
 
 // Whether some scalar starts with b, in the same way.
-fn starts(any: bool, b: u8) -> bool
-    ensures { result ≡ starts any b }
+fn starts<const ANY: bool>(b: u8) -> bool
+    ensures { result ≡ starts ANY b }
 {
-    ascii(any, b) | ((0xC2 <= b) & (b <= 0xF4))
+    ascii::<ANY>(b) | ((0xC2 <= b) & (b <= 0xF4))
 }
 
 // Whether b fits the three bytes before it. No branch, so that 16 are tested at once.
-fn fits(any: bool, b: u8, p: u8, q: u8, r: u8) -> bool
-    ensures { result ≡ fits any b p q r }
+fn fits<const ANY: bool>(b: u8, p: u8, q: u8, r: u8) -> bool
+    ensures { result ≡ fits ANY b p q r }
 {
     let due = due(p, q, r);
-    (due & second(any, b, p)) | (!due & starts(any, b))
+    (due & second::<ANY>(b, p)) | (!due & starts::<ANY>(b))
 }
 
 // A place in a text with three bytes before it.
@@ -70,29 +70,29 @@ struct Inner<'a> {
 impl<'a> Inner<'a> {
     // Whether each of the 16 bytes from `ahead` places on fits the three before it.
     #[tactic(auto, using(crate::proofs::Steps::block_laws))]
-    fn fits_block(self, any: bool, ahead: usize) -> bool
+    fn fits_block<const ANY: bool>(self, ahead: usize) -> bool
         requires { self.at + ahead + 16 ≤ length self.text.now }
-        ensures { result ≡ every (fits_at any self.entry.text.now) (self.entry.at + ahead) 16 }
+        ensures { result ≡ every (fits_at ANY self.entry.text.now) (self.entry.at + ahead) 16 }
     {
         let (text, at) = (self.text, self.at + ahead);
         let mut all = true;
         for k in 0..16 {
             let i = at + k;
-            all &= fits(any, text[i], text[i - 1], text[i - 2], text[i - 3]);
+            all &= fits::<ANY>(text[i], text[i - 1], text[i - 2], text[i - 3]);
         }
         all
     }
 
     // How many bytes fit the three before them, by blocks of 16, none of them the text's last.
     #[tactic(auto, using(crate::proofs::Steps::run_laws))]
-    fn fits_blocks(self, any: bool) -> usize
+    fn fits_blocks<const ANY: bool>(self) -> usize
         requires { self.at < length self.text.now }
-        ensures { Run (fits_at any self.entry.text.now) self.entry.at result (length self.entry.text.now - 1) }
+        ensures { Run (fits_at ANY self.entry.text.now) self.entry.at result (length self.entry.text.now - 1) }
     {
         let rest = self.text.len() - self.at;
-        // A block at a time, while all of it fits.
+        // A block at a time, while all of it fits: by an index, since each place looks back three bytes, so that parts of 16 would not do.
         let mut k = 0;
-        while k + 16 < rest && self.fits_block(any, k) {
+        while k + 16 < rest && self.fits_block::<ANY>(k) {
             k += 16;
         }
         k
@@ -123,56 +123,21 @@ impl<'a> Inner<'a> {
     }
 }
 
-// How many bytes from `at` on are scalars inside the text, by blocks, and no controls unless `any` may stand; 0 where the first block is not so.
-#[tactic(auto, using(crate::proofs::Window::passed_laws))]
-fn inner_scalars(any: bool, text: &[u8], at: usize) -> usize
+// How many bytes from `at` on are scalars inside the text, by blocks, and no controls unless `ANY` may stand; none where the first block is not so.
+#[tactic(auto, using(crate::proofs::Window::passed_rest))]
+fn inner_scalars<const ANY: bool>(text: &[u8], at: usize) -> Option<usize>
     requires { at < length text.now }
-    ensures passed_utf8 { Passed (utf8_from text.now) (length text.now) at result }
-    ensures passed_id { any ≡ false → Passed (id_from text.now) (length text.now) at result }
+    ensures { IfSome result (Stepped (rest_from ANY text.now) (length text.now) at) }
 {
     if at < 3 || text.len() - at <= 16 {
-        return 0;
+        return None;
     }
     let inner = Inner { text, at };
-    if inner.quiet(0) {
-        inner.whole_scalars(inner.fits_blocks(any))
-    } else {
-        0
+    if !inner.quiet(0) {
+        return None;
     }
-}
-
-// How many bytes from `at` on are whole scalars: by blocks, or one scalar; none where there is no scalar.
-#[tactic(auto, using(crate::proofs::Utf8::step_laws))]
-fn utf8_step(text: &[u8], at: usize) -> Option<usize>
-    requires { at < length text.now }
-    ensures none { IfNone result (utf8_from text.now at ≡ false) }
-    ensures some { IfSome result (Stepped (utf8_from text.now) (length text.now) at) }
-{
-    let many = inner_scalars(true, text, at);
-    if many != 0 {
-        return Some(many);
-    }
-    let scalar = utf8_scalar(text, at)?;
-    Some(scalar.width)
-}
-
-// Whether a text is UTF-8.
-#[tactic(auto, using(crate::proofs::Utf8::utf8_laws))]
-pub fn is_utf8(text: &[u8]) -> bool
-    ensures { result ≡ utf8 text.now }
-{
-    if all_ascii(true, text) {
-        return true;
-    }
-    // By an index, since a step is as wide as what it found, and looks back three bytes.
-    let mut at = 0;
-    while at < text.len() {
-        let Some(width) = utf8_step(text, at) else {
-            return false;
-        };
-        at += width;
-    }
-    true
+    let many = inner.whole_scalars(inner.fits_blocks::<ANY>());
+    (many != 0).then_some(many)
 }
 
 // Whether no identity has that scalar there: a control, or white space first or last.
@@ -182,22 +147,46 @@ fn refused(value: u32, edge: bool) -> bool
     unicode_control(value) || (edge && unicode_whitespace(value))
 }
 
-// How many bytes from `at` on are scalars that may stand there in an identity: by blocks, or one scalar; none where there is no such scalar.
-#[tactic(auto, using(crate::proofs::Valid::step_laws))]
-fn id_step(text: &[u8], at: usize) -> Option<usize>
+// How many bytes from `at` on are scalars, in an identity such as may stand there unless `ANY` may: by blocks, or one scalar; none where there is no such scalar.
+#[tactic(auto, using(crate::proofs::Walk::step_laws))]
+fn step<const ANY: bool>(text: &[u8], at: usize) -> Option<usize>
     requires { at < length text.now }
-    ensures none { IfNone result (id_from text.now at ≡ false) }
-    ensures some { IfSome result (Stepped (id_from text.now) (length text.now) at) }
+    ensures none { IfNone result (rest_from ANY text.now at ≡ false) }
+    ensures some { IfSome result (Stepped (rest_from ANY text.now) (length text.now) at) }
 {
-    let many = inner_scalars(false, text, at);
-    if many != 0 {
+    if let Some(many) = inner_scalars::<ANY>(text, at) {
         return Some(many);
     }
     let scalar = utf8_scalar(text, at)?;
-    if refused(scalar.value, (at == 0) | (at + scalar.width == text.len())) {
+    let refused = refused(scalar.value, (at == 0) | (at + scalar.width == text.len()));
+    if !ANY & refused {
         return None;
     }
     Some(scalar.width)
+}
+
+// Whether a text is UTF-8 where `ANY` scalar may stand, else whether it is a valid identity: step by step.
+#[tactic(auto, using(crate::proofs::Walk::walk_laws))]
+fn walk<const ANY: bool>(text: &[u8]) -> bool
+    ensures { result ≡ rest_from ANY text.now 0 }
+{
+    // By an index, since a step is as wide as what it found, and looks back three bytes.
+    let mut at = 0;
+    while at < text.len() {
+        let Some(width) = step::<ANY>(text, at) else {
+            return false;
+        };
+        at += width;
+    }
+    ANY | (at != 0)
+}
+
+// Whether a text is UTF-8.
+#[tactic(auto, using(crate::proofs::Utf8::utf8_ascii))]
+pub fn is_utf8(text: &[u8]) -> bool
+    ensures { result ≡ utf8 text.now }
+{
+    all_ascii::<true>(text) || walk::<true>(text)
 }
 
 // Whether a text is ASCII without controls and with no blank first or last, as most identities are.
@@ -207,27 +196,15 @@ fn plain(text: &[u8]) -> bool
 {
     let len = text.len();
     if len != 0 && text[0] != 0x20 && text[len - 1] != 0x20 {
-        all_ascii(false, text)
+        all_ascii::<false>(text)
     } else {
         false
     }
 }
 
 // Whether a text is a valid identity: UTF-8, not empty, no control, white space neither first nor last.
-#[tactic(auto, using(crate::proofs::Valid::id_laws))]
 pub fn valid_id(text: &[u8]) -> bool
     ensures { result ≡ valid_id text.now }
 {
-    if plain(text) {
-        return true;
-    }
-    // By an index, as in `is_utf8`.
-    let mut at = 0;
-    while at < text.len() {
-        let Some(width) = id_step(text, at) else {
-            return false;
-        };
-        at += width;
-    }
-    at != 0
+    plain(text) || walk::<false>(text)
 }
