@@ -11,8 +11,7 @@ use Rattle.identity.proofs.Tests.{cases, both}
 use Rattle.schema.specs.Number.{number}
 use Rattle.schema.specs.Layout.{Layout, plain, layouts, bytes, offset, field_at}
 use Rattle.schema.specs.Rows.{field}
-use Rattle.packing.specs.declared.shape.Governed.{Governed}
-use Rattle.packing.specs.Shape.{layout_of, used, governed, shape_of}
+use Rattle.packing.specs.Shape.{layout_of, used, governed_offset, governed_bytes, governed, start_in, bytes_in, shape_of}
 
 -- a test holds of every layout of a list
 every : (Layout → Bool) → List Layout → Bool
@@ -42,47 +41,49 @@ unfolding words_used
 used_whole t = eqb-true _ _ (both _ _ (used_words t)).1
 
 -- the fields that a bit governs are none, a W or two, inside the record
-inside : Governed → Bool
-inside g = eqb (g.len % 4) 0 && (leb g.len 8 && leb (g.offset + g.len) 64)
+inside : ℕ → Layout → Bool
+inside k l =
+    leb (start_in (governed k l) + bytes_in (governed k l)) 64
+    && (eqb (start_in (governed k l)) (governed_offset k 4 l.fields) && eqb (bytes_in (governed k l)) (governed_bytes k l.fields))
 
-inside_0 : (t : ℕ) → inside (governed 0 (layout_of t)) ≡ true
+inside_0 : (t : ℕ) → inside 0 (layout_of t) ≡ true
 unfolding layouts every inside
-inside_0 t = every-at (λ l. inside (governed 0 l)) layouts (plain []) t refl refl
+inside_0 t = every-at (inside 0) layouts (plain []) t refl refl
 
-inside_1 : (t : ℕ) → inside (governed 1 (layout_of t)) ≡ true
+inside_1 : (t : ℕ) → inside 1 (layout_of t) ≡ true
 unfolding layouts every inside
-inside_1 t = every-at (λ l. inside (governed 1 l)) layouts (plain []) t refl refl
+inside_1 t = every-at (inside 1) layouts (plain []) t refl refl
 
-module _ (g : Governed) (e : inside g ≡ true) where
-  whole_words : g.len % 4 ≡ 0
+module _ (k : ℕ) (l : Layout) (e : inside k l ≡ true) where
+  in_record : start_in (governed k l) + bytes_in (governed k l) ≤ 64
   unfolding inside
-  whole_words = eqb-true _ _ (both _ _ e).0
+  in_record = leb-true _ _ (both _ _ e).0
 
-  short : g.len ≤ 8
+  same_start : start_in (governed k l) ≡ governed_offset k 4 l.fields
   unfolding inside
-  short = leb-true _ _ (both _ _ (both _ _ e).1).0
+  same_start = eqb-true _ _ (both _ _ (both _ _ e).1).0
 
-  in_record : g.offset + g.len ≤ 64
+  same_bytes : bytes_in (governed k l) ≡ governed_bytes k l.fields
   unfolding inside
-  in_record = leb-true _ _ (both _ _ (both _ _ e).1).1
+  same_bytes = eqb-true _ _ (both _ _ (both _ _ e).1).1
 
-pub words_0 : (t : ℕ) → (shape_of t).bit_0.len % 4 ≡ 0
-words_0 t = whole_words _ (inside_0 t)
+pub record_0 : (t : ℕ) → start_in (shape_of t).bit_0 + bytes_in (shape_of t).bit_0 ≤ 64
+record_0 t = in_record 0 (layout_of t) (inside_0 t)
 
-pub short_0 : (t : ℕ) → (shape_of t).bit_0.len ≤ 8
-short_0 t = short _ (inside_0 t)
+pub start_0 : (t : ℕ) → start_in (shape_of t).bit_0 ≡ governed_offset 0 4 (layout_of t).fields
+start_0 t = same_start 0 (layout_of t) (inside_0 t)
 
-pub record_0 : (t : ℕ) → (shape_of t).bit_0.offset + (shape_of t).bit_0.len ≤ 64
-record_0 t = in_record _ (inside_0 t)
+pub bytes_0 : (t : ℕ) → bytes_in (shape_of t).bit_0 ≡ governed_bytes 0 (layout_of t).fields
+bytes_0 t = same_bytes 0 (layout_of t) (inside_0 t)
 
-pub words_1 : (t : ℕ) → (shape_of t).bit_1.len % 4 ≡ 0
-words_1 t = whole_words _ (inside_1 t)
+pub record_1 : (t : ℕ) → start_in (shape_of t).bit_1 + bytes_in (shape_of t).bit_1 ≤ 64
+record_1 t = in_record 1 (layout_of t) (inside_1 t)
 
-pub short_1 : (t : ℕ) → (shape_of t).bit_1.len ≤ 8
-short_1 t = short _ (inside_1 t)
+pub start_1 : (t : ℕ) → start_in (shape_of t).bit_1 ≡ governed_offset 1 4 (layout_of t).fields
+start_1 t = same_start 1 (layout_of t) (inside_1 t)
 
-pub record_1 : (t : ℕ) → (shape_of t).bit_1.offset + (shape_of t).bit_1.len ≤ 64
-record_1 t = in_record _ (inside_1 t)
+pub bytes_1 : (t : ℕ) → bytes_in (shape_of t).bit_1 ≡ governed_bytes 1 (layout_of t).fields
+bytes_1 t = same_bytes 1 (layout_of t) (inside_1 t)
 
 -- a test holds of every number below k
 below : (ℕ → Bool) → ℕ → Bool
@@ -138,4 +139,4 @@ module _ (t j : ℕ) (h : j < (layout_of t).identities) where
 
 pub ruleset identity_laws = (identities_few, identity_start, identity_len)
 
-pub ruleset table_laws = (used_most, used_whole, words_0, short_0, record_0, words_1, short_1, record_1)
+pub ruleset table_laws = (used_most, used_whole, record_0, start_0, bytes_0, record_1, start_1, bytes_1)

@@ -1,7 +1,10 @@
 -- What the packing rules ask of a table's layout: how many bytes it uses, and which bytes a presence bit governs. Assumes nothing.
-use Rattle.std.specs.Prelude.{ℕ, ◌+◌, Bool, false, cond, List, [], ◌∷◌, eqb, get_or}
+use Rattle.std.specs.Prelude.{ℕ, zero, suc, ◌+◌, Bool, false, cond, List, [], ◌∷◌, eqb, get_or}
 use Rattle.schema.specs.Layout.{Field, W, D, W-if, bytes, Layout, plain, layouts}
+use Rattle.std.specs.declared.option.Option.{Option}
+use Rattle.std.specs.declared.option.Option.TheVariants.{None, Some}
 use Rattle.packing.specs.declared.shape.Governed.{Governed}
+use Rattle.packing.specs.declared.shape.Governed.TheVariants.{Word, Long}
 use Rattle.packing.specs.declared.shape.Shape.{Shape}
 
 -- the layout of a table; past the last table no byte is used
@@ -30,8 +33,24 @@ abbrev pub governed_bytes : ℕ → List Field → ℕ
 governed_bytes k [] = 0
 governed_bytes k (f ∷ fs) = cond (governs k f) (bytes f) 0 + governed_bytes k fs
 
-abbrev pub governed : ℕ → Layout → Governed
-governed k l = record { offset = governed_offset k 4 l.fields; len = governed_bytes k l.fields }
+-- n governed bytes from byte o on: none, a W, or two
+abbrev pub governed_at : ℕ → ℕ → Option Governed
+governed_at o zero = None
+governed_at o (suc n) = Some (cond (eqb n 3) (Word o) (Long o))
+
+abbrev pub governed : ℕ → Layout → Option Governed
+governed k l = governed_at (governed_offset k 4 l.fields) (governed_bytes k l.fields)
+
+-- where such bytes start, and how many they are; 0 and 0 where there are none
+abbrev pub start_in : Option Governed → ℕ
+start_in None = 0
+start_in (Some (Word o)) = o
+start_in (Some (Long o)) = o
+
+abbrev pub bytes_in : Option Governed → ℕ
+bytes_in None = 0
+bytes_in (Some (Word o)) = 4
+bytes_in (Some (Long o)) = 8
 
 abbrev pub shape : Layout → Shape
 shape l =

@@ -3,7 +3,7 @@ ghost use Rattle.std.specs.Prelude.{◌≡◌, ◌&&◌, ◌+◌, ◌*◌, ◌-�
 ghost use Rattle.schema.specs.Bytes.{byte_of};
 ghost use Rattle.packing.specs.Clean.{zeros, fields_clean, timing_clean, kind_clean, clean};
 ghost use Rattle.packing.specs.Runs.{CleanRun};
-ghost use Rattle.packing.specs.Shape.{layout_of, shape_of};
+ghost use Rattle.packing.specs.Shape.{layout_of, start_in, bytes_in, shape_of};
 
 use crate::shape::{Governed, Shape};
 use schema::lent::Pack;
@@ -27,17 +27,14 @@ fn rest_zero(item: Record, used: u8) -> bool
 
 // Whether the bytes that a presence bit governs, none, a W or two, are zero.
 #[tactic(auto, using(crate::proofs::Zeros::zeros_laws))]
-fn field_zero(item: Record, field: Governed) -> bool
-    requires in_record { field.offset + field.len ≤ 64 }
-    requires words { field.len % 4 ≡ 0 }
-    requires short { field.len ≤ 8 }
-    ensures { result ≡ zeros item.entry.bytes.now (item.entry.number * 64 + field.offset) field.len }
+fn field_zero(item: Record, field: Option<Governed>) -> bool
+    requires in_record { start_in field + bytes_in field ≤ 64 }
+    ensures { result ≡ zeros item.entry.bytes.now (item.entry.number * 64 + start_in field) (bytes_in field) }
 {
-    let at = usize::from(field.offset);
-    match field.len {
-        0 => true,
-        4 => item.word(at) == 0,
-        _ => item.long(at) == 0,
+    match field {
+        None => true,
+        Some(Governed::Word(at)) => item.word(usize::from(at)) == 0,
+        Some(Governed::Long(at)) => item.long(usize::from(at)) == 0,
     }
 }
 
@@ -69,7 +66,7 @@ fn timing_clean(item: Record) -> bool
     (kind == 2 || !period) && (kind < 2 || period || item.long(16) == 0)
 }
 
-// What is asked of actions and reactions beside their fields.
+// What is asked of actions and reactions beside their fields. A match on the table: document 01 asks it of these two tables by number.
 fn kind_clean(item: Record, table: u8) -> bool
     ensures { result ≡ kind_clean table item.entry.bytes.now item.entry.number }
 {

@@ -15,6 +15,8 @@ use identity::scan::is_utf8;
 use identity::texts::Texts;
 use schema::lent::{PACK_LIMIT, Pack, TABLES};
 use schema::record::Record;
+use schema::row::Row;
+use schema::rows::{EnclaveImage, FederateImage};
 
 pub const TEXT_LIMIT: usize = 65_536;
 
@@ -23,16 +25,17 @@ pub const TEXT_LIMIT: usize = 65_536;
 fn row_after(previous: u8, table: u8) -> bool
     ensures { result ≡ row_after previous table }
 {
-    2 <= table && usize::from(table) < TABLES && previous <= table
+    EnclaveImage::TABLE < table && usize::from(table) < TABLES && previous <= table
 }
 
+// The kinds of pack are document 01's two, and what differs between them stands here; the checks take the kind beside the bytes.
 impl PackKind {
     fn first_table(self) -> u8
         ensures { result ≡ first_table self }
     {
         match self {
-            PackKind::Enclave => 1,
-            PackKind::Federate => 0,
+            PackKind::Enclave => EnclaveImage::TABLE,
+            PackKind::Federate => FederateImage::TABLE,
         }
     }
 
@@ -42,7 +45,10 @@ impl PackKind {
     {
         match self {
             PackKind::Enclave => row_after(previous, table),
-            PackKind::Federate => table == 1 || (1 <= previous && row_after(previous, table)),
+            PackKind::Federate => {
+                table == EnclaveImage::TABLE
+                    || (EnclaveImage::TABLE <= previous && row_after(previous, table))
+            }
         }
     }
 }
@@ -182,7 +188,7 @@ pub fn checked_pack<'a>(kind: PackKind, bytes: &'a [u8], texts: Texts) -> Result
     Ok(pack)
 }
 
-// The packing rules of a pack over its two texts.
+// The packing rules of a pack over its two texts. It takes the three lent texts as a caller has them; `Texts` is made of two here.
 pub fn check_packing(kind: PackKind, pack: &[u8], batch: &[u8], house: &[u8]) -> Result<(), Refusal>
     ensures { result ≡ first (packing_checks kind pack.now batch.now house.now) }
 {

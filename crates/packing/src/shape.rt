@@ -4,11 +4,11 @@ ghost use Rattle.packing.specs.Shape.{shape_of};
 
 use schema::lent::TABLES;
 
-// The bytes of a record that a presence bit governs: `len` of them from `offset`.
+// The bytes of a record that a presence bit governs: a W or two, from an offset.
 #[derive(Clone, Copy)]
-pub struct Governed {
-    pub offset: u8,
-    pub len: u8,
+pub enum Governed {
+    Word(u8),
+    Long(u8),
 }
 
 // The largest byte 1 and byte 2, how many bytes are used, how many identities there are, and what bits 0 and 1 of byte 1 govern.
@@ -18,11 +18,9 @@ pub struct Shape {
     pub kinds: u8,
     pub used: u8,
     pub identities: u8,
-    pub bit_0: Governed,
-    pub bit_1: Governed,
+    pub bit_0: Option<Governed>,
+    pub bit_1: Option<Governed>,
 }
-
-const NONE: Governed = Governed { offset: 0, len: 0 };
 
 // A record of its table number alone.
 const NO_FIELDS: Shape = Shape {
@@ -30,8 +28,8 @@ const NO_FIELDS: Shape = Shape {
     kinds: 0,
     used: 4,
     identities: 0,
-    bit_0: NONE,
-    bit_1: NONE,
+    bit_0: None,
+    bit_1: None,
 };
 
 const FEDERATE: Shape = Shape {
@@ -51,8 +49,8 @@ const ENCLAVE: Shape = Shape {
 const REACTORS: Shape = Shape {
     bits: 3,
     used: 44,
-    bit_0: Governed { offset: 32, len: 4 },
-    bit_1: Governed { offset: 36, len: 8 },
+    bit_0: Some(Governed::Word(32)),
+    bit_1: Some(Governed::Long(36)),
     ..NO_FIELDS
 };
 
@@ -60,7 +58,7 @@ const ACTIONS: Shape = Shape {
     bits: 3,
     kinds: 3,
     used: 32,
-    bit_0: Governed { offset: 12, len: 4 },
+    bit_0: Some(Governed::Word(12)),
     ..NO_FIELDS
 };
 
@@ -73,10 +71,11 @@ const REACTIONS: Shape = Shape {
     bits: 3,
     kinds: 1,
     used: 56,
-    bit_1: Governed { offset: 52, len: 4 },
+    bit_1: Some(Governed::Word(52)),
     ..NO_FIELDS
 };
 
+// Modes have a constant of their own beside levels' equal one, startups beside lifecycles': document 01 has a layout for each table.
 const MODES: Shape = Shape {
     used: 12,
     ..NO_FIELDS
@@ -85,8 +84,8 @@ const MODES: Shape = Shape {
 const SCOPES: Shape = Shape {
     bits: 3,
     used: 64,
-    bit_0: Governed { offset: 4, len: 4 },
-    bit_1: Governed { offset: 12, len: 4 },
+    bit_0: Some(Governed::Word(4)),
+    bit_1: Some(Governed::Word(12)),
     ..NO_FIELDS
 };
 

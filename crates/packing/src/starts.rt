@@ -6,6 +6,8 @@ ghost use Rattle.packing.specs.Starts.{reaches, first_reaching, table_starts};
 use identity::texts::Texts;
 use schema::lent::{Enclave, Pack, TABLES, TableStarts, records_of};
 use schema::record::Record;
+use schema::row::Row;
+use schema::rows::EnclaveImage;
 
 // Whether record k is table t's first in its enclave, or past it.
 fn reaches(p: &[u8], t: usize, k: u32) -> bool
@@ -19,7 +21,7 @@ fn reaches(p: &[u8], t: usize, k: u32) -> bool
         number: k as usize,
     };
     let table = record.table();
-    table < 2 || t <= usize::from(table)
+    table <= EnclaveImage::TABLE || t <= usize::from(table)
 }
 
 // The first of the records from `from` on that reaches table t. By a loop: with `(from..end).find(..)` small stations, each of which has all its
@@ -41,9 +43,9 @@ pub fn table_starts(p: &[u8], rows: u32) -> TableStarts
 {
     let mut firsts = [0u32; TABLES + 1];
     let mut k = rows;
-    for t in 0..TABLES + 1 {
+    for (t, first) in firsts.iter_mut().enumerate() {
         k = first_reaching(p, t, k);
-        firsts[t] = k;
+        *first = k;
     }
     TableStarts { firsts }
 }
