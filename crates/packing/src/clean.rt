@@ -90,6 +90,7 @@ pub fn clean(item: Record, table: u8, shape: Shape) -> bool
 
 // The first record from n on that is not a clean one of `table`, whose shape it is, or the pack's end.
 // The two stand side by side: a shape found for each record takes half again as long, a struct of the two a sixth more.
+// By a loop: with `(n..pack.records()).find(..)` the check's own search does not prove the answer; no proof by hand was tried.
 #[tactic(auto, using(crate::proofs::Runs::clean_run_laws))]
 pub fn past_clean(pack: Pack, n: usize, table: u8, shape: Shape) -> usize
     requires from { n ≤ length pack.bytes.now / 64 }
