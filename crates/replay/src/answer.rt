@@ -16,8 +16,12 @@ pub enum Answer {
 
 pub fn answer_of(case: Case) -> Answer {
     match case.kind {
-        Some(PackKind::Enclave) => Answer::Enclave(check_enclave(case.pack, case.batch, case.house)),
-        Some(PackKind::Federate) => Answer::Federate(check_federate(case.pack, case.batch, case.house)),
+        Some(PackKind::Enclave) => Answer::Enclave(check_enclave(
+            case.pack, case.batch, case.house,
+        )),
+        Some(PackKind::Federate) => Answer::Federate(check_federate(
+            case.pack, case.batch, case.house,
+        )),
         None => Answer::UnknownKind,
     }
 }
