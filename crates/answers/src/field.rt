@@ -44,11 +44,11 @@ pub enum Field {
     DelayNanos,
 }
 
-impl Field {
-    pub fn number(self) -> u8
-        ensures { result ≡ field_number self }
-    {
-        self as u8
+impl From<Field> for u8 {
+    ghost from_gives = { λ field number. number ≡ field_number field };
+
+    fn from(field: Field) -> u8 {
+        field as u8
     }
 }
 
@@ -78,7 +78,7 @@ impl RowField {
         [
             u64::from(self.table),
             u64::from(self.index),
-            u64::from(self.field.number()),
+            u64::from(u8::from(self.field)),
         ]
     }
 }

@@ -16,11 +16,11 @@ pub enum IdKind {
     Binding,
 }
 
-impl IdKind {
-    pub fn number(self) -> u8
-        ensures { result ≡ kind_number self }
-    {
-        self as u8
+impl From<IdKind> for u8 {
+    ghost from_gives = { λ kind number. number ≡ kind_number kind };
+
+    fn from(kind: IdKind) -> u8 {
+        kind as u8
     }
 }
 
@@ -45,7 +45,7 @@ impl StableId {
     {
         let [house, start, len] = place_numbers(self.id);
         [
-            u64::from(self.kind.number()),
+            u64::from(u8::from(self.kind)),
             u64::from(self.index),
             house,
             start,

@@ -209,9 +209,9 @@ impl Refusal {
             Refusal::DuplicateRouteHalf {
                 boundary,
                 direction,
-            } => with_boundary(27, boundary, direction as u8),
+            } => with_boundary(27, boundary, u8::from(direction)),
             Refusal::RoutePairMismatch { boundary, field } => {
-                with_boundary(28, boundary, field.number())
+                with_boundary(28, boundary, u8::from(field))
             }
         }
     }

@@ -2,9 +2,10 @@
 ghost use Rattle.std.specs.Prelude.{◌≡◌, [], ◌∷◌};
 ghost use Rattle.answers.specs.Checks.{first};
 ghost use Rattle.identity.specs.Text.{identity_text};
-ghost use Rattle.checks.specs.Identities.{id_check, text_order_checks};
+ghost use Rattle.checks.specs.Identities.{id_check, text_order_checks, id_order_checks};
 
 use answers::{Refusal, StableId};
+use identity::IdentityPlace;
 use identity::compare::compare_bytes;
 use identity::scan::valid_id;
 use identity::texts::Texts;
@@ -37,4 +38,11 @@ pub fn validate_text_order(id: StableId, text: &[u8], previous: &[u8]) -> Result
         Ordering::Equal => Err(Refusal::DuplicateStableId { id }),
         Ordering::Greater => Ok(()),
     }
+}
+
+// The same, both by their places.
+pub fn validate_id_order(texts: Texts, id: StableId, before: IdentityPlace) -> Result<(), Refusal>
+    ensures { let t = texts.entry in result ≡ first (id_order_checks (identity_text t.batch.now t.house.now) id.kind id.index id.id before) }
+{
+    validate_text_order(id, texts.identity_text(id.id), texts.identity_text(before))
 }

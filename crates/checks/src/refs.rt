@@ -51,7 +51,7 @@ pub fn check_ref<K: Key>(starts: &TableStarts, at: RowField, key: K) -> Result<F
     }
     Ok(Found {
         key,
-        record_number: starts.firsts[target as usize] as usize + referenced as usize,
+        record_number: starts.record(target, referenced as usize),
     })
 }
 

@@ -38,6 +38,7 @@ impl From<SliceRange> for IndexSpan {
     }
 }
 
+// The ends of a range and of a span have the Rust's names, each its own type's: a range's never overflows, and is walked without the test.
 impl SliceRange {
     // The exclusive end.
     pub fn checked_end(self) -> Option<u64>

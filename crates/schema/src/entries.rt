@@ -30,6 +30,7 @@ pub struct LifecycleReactionImage {
     pub action: ActionIndex,
 }
 
+// One block for each type, as in `rows`: each has its own fields.
 impl Stored for LevelReactionImage {
     ghost at = { level_at };
 

@@ -1,6 +1,7 @@
 // The index types, one for each dense table, and the kinds that stand in a row.
 ghost use Rattle.std.specs.Prelude.{◌≡◌, ◌<◌, ◌^◌};
 ghost use Rattle.schema.specs.Rows.{index_at, transition_of, timing_of, kind_of, direction_of, domain_of};
+ghost use Rattle.schema.specs.Records.{direction_number};
 
 // A tuple struct for each table, since a key of one table is none of another's. One struct over a row type would need its own impls of all that is
 // derived here.
@@ -126,7 +127,7 @@ impl ActionTiming {
     }
 }
 
-// By the outbound bit.
+// By the outbound bit, and back.
 impl From<bool> for RouteDirection {
     ghost from_gives = { λ b r. r ≡ direction_of b };
 
@@ -136,6 +137,14 @@ impl From<bool> for RouteDirection {
         } else {
             RouteDirection::Inbound
         }
+    }
+}
+
+impl From<RouteDirection> for u8 {
+    ghost from_gives = { λ direction bit. bit ≡ direction_number direction };
+
+    fn from(direction: RouteDirection) -> u8 {
+        direction as u8
     }
 }
 

@@ -1,8 +1,8 @@
 // A lent pack of whole records, where the tables of an enclave begin in it, and a lent enclave.
-ghost use Rattle.std.specs.Prelude.{◌≡◌, ◌/◌, ◌<◌, ◌≤◌, length, MatchOption};
+ghost use Rattle.std.specs.Prelude.{◌≡◌, ◌+◌, ◌/◌, ◌^◌, ◌<◌, ◌≤◌, length, MatchOption};
 ghost use Rattle.schema.specs.Bytes.{Whole};
 ghost use Rattle.schema.specs.Records.{records_of, is_of, count_below};
-ghost use Rattle.schema.specs.Tables.{rows_of, IsRising, EndsInside, tables};
+ghost use Rattle.schema.specs.Tables.{start_of, rows_of, IsRising, EndsInside, tables};
 
 use crate::record::Record;
 use identity::texts::Texts;
@@ -77,7 +77,7 @@ pub fn records_of(pack: &[u8]) -> u32
 // How many tables there are, 0 to 24.
 pub const TABLES: usize = 25;
 
-// The record number of each table's first row in one enclave, and of the enclave's end.
+// The record number of each table's first row in one enclave, and of the enclave's end: an array by table number, since the tables are so many.
 #[derive(Clone, Copy)]
 pub struct TableStarts {
     pub firsts: [u32; TABLES + 1],
@@ -90,7 +90,17 @@ impl TableStarts {
         requires { table < tables }
         ensures { result ≡ rows_of self.now.firsts table }
     {
-        self.firsts[table as usize + 1] - self.firsts[table as usize]
+        let t = usize::from(table);
+        self.firsts[t + 1] - self.firsts[t]
+    }
+
+    // The record number of row i of a table, whether or not the table has it.
+    pub fn record(&self, table: u8, i: usize) -> usize
+        requires known { table < tables }
+        requires within { i < 2 ^ 33 }
+        ensures { result ≡ start_of self.now.firsts table + i }
+    {
+        self.firsts[usize::from(table)] as usize + i
     }
 }
 

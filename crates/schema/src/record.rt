@@ -14,12 +14,29 @@ pub struct Record<'a> {
     ghost there: { IsRecord bytes.now number },
 }
 
-// Bit k of a byte, the lowest first.
+// Bit k of a byte, the lowest first: by its number, as document 01 counts presence bits; std has no test of a bit.
 pub fn has_bit(b: u8, k: u32) -> bool
     requires { k < 8 }
     ensures { result ≡ bit_of b k }
 {
     (b >> k) % 2 == 1
+}
+
+// The W and the D from any byte that has theirs inside, in a record or over its end.
+#[tactic(auto, unfolding(crate::specs::Number::number))]
+pub fn word_at(p: &[u8], at: usize) -> u32
+    requires { at + 4 ≤ length p.now }
+    ensures { result ≡ number 4 p.now at }
+{
+    u32::from_be_bytes([p[at], p[at + 1], p[at + 2], p[at + 3]])
+}
+
+#[tactic(auto, unfolding(crate::specs::Number::number))]
+pub fn long_at(p: &[u8], at: usize) -> u64
+    requires { at + 8 ≤ length p.now }
+    ensures { result ≡ number 8 p.now at }
+{
+    u64::from(word_at(p, at)) * 0x1_0000_0000 + u64::from(word_at(p, at + 4))
 }
 
 impl<'a> Record<'a> {
@@ -47,22 +64,19 @@ impl<'a> Record<'a> {
     }
 
     // The W from byte j.
-    #[tactic(auto, unfolding(crate::specs::Number::number))]
     pub fn word(self, j: usize) -> u32
         requires { j ≤ 60 }
         ensures { result ≡ number 4 self.entry.bytes.now (self.entry.number * 64 + j) }
     {
-        let (p, at) = (self.bytes, self.number * 64 + j);
-        u32::from_be_bytes([p[at], p[at + 1], p[at + 2], p[at + 3]])
+        word_at(self.bytes, self.number * 64 + j)
     }
 
     // The D from byte j.
-    #[tactic(auto, unfolding(crate::specs::Number::number))]
     pub fn long(self, j: usize) -> u64
         requires { j ≤ 56 }
         ensures { result ≡ number 8 self.entry.bytes.now (self.entry.number * 64 + j) }
     {
-        u64::from(self.word(j)) * 0x1_0000_0000 + u64::from(self.word(j + 4))
+        long_at(self.bytes, self.number * 64 + j)
     }
 
     // A range of a list table: two Ws.

@@ -62,7 +62,8 @@ pub trait ListKey: Key + Stored {
 }
 
 impl<'a> Enclave<'a> {
-    // How many rows a table has. Rows are walked by `for i in 0..`: a refusal shows the number, and a key is made of it.
+    // How many rows a table has: asked of the enclave, as records and rows are, so that the passes need not know where it keeps its starts.
+    // Rows are walked by `for i in 0..`: a refusal shows the number, and a key is made of it.
     pub fn rows(&self, table: u8) -> u32
         requires { table < tables }
         ensures { result ≡ rows_of self.now.starts.now.firsts table }
@@ -78,7 +79,7 @@ impl<'a> Enclave<'a> {
         ensures inside { i < rows_of self.now.starts.now.firsts table → result < start_of self.now.starts.now.firsts tables }
         ensures there { i < rows_of self.now.starts.now.firsts table → result < length self.now.pack.bytes.now / 64 }
     {
-        self.starts.firsts[table as usize] as usize + i
+        self.starts.record(table, i)
     }
 
     // Row i of a table; the empty row where the pack ends before it.

@@ -113,6 +113,7 @@ pub struct RequiredBindingImage {
     pub kind: BindingKind,
 }
 
+// Each row's reader beside its table, one block for each type: no macro may write them, and each has its own fields.
 impl Stored for FederateImage {
     ghost at = { federate_at };
 
@@ -211,6 +212,7 @@ impl Stored for ActionImage {
 
     ghost past = { action_past };
 
+    // By hand: the first kind of timing has a delay, so that `ActionTiming` derives no `Default`.
     fn empty() -> Self {
         ActionImage {
             scope: ScopeIndex(0),
