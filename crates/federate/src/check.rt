@@ -15,29 +15,28 @@ use answers::Refusal;
 use identity::texts::Texts;
 use packing::PackKind;
 use packing::rules::checked_pack;
-use route_pairs::validate_federate_route_pairs;
-use schema::lent::Pack;
+use route_pairs::{Federate, validate_federate_route_pairs};
 use schema::row::Stored;
 use schema::rows::FederateImage;
 
 // The federate's own record, which has as many enclaves as there are.
 #[tactic(auto, using(answers::proofs::Laws::list_laws), unfolding(crate::specs::Federate::own_checks))]
-fn check_own_record(texts: Texts, federate: FederateImage, enclaves: u32) -> Result<(), Refusal>
-    ensures { let t = texts.entry in result ≡ first (own_checks (identity_text t.batch.now t.house.now) federate enclaves) }
+fn check_own_record(texts: Texts, own: FederateImage, enclaves: u32) -> Result<(), Refusal>
+    ensures { let t = texts.entry in result ≡ first (own_checks (identity_text t.batch.now t.house.now) own enclaves) }
 {
-    validate_federate_metadata(texts, federate)?;
-    check_enclave_count(federate, enclaves)
+    validate_federate_metadata(texts, own)?;
+    check_enclave_count(own, enclaves)
 }
 
 // What is answered of a pack that is packed.
-fn check_packed(pack: Pack, texts: Texts) -> Result<FederateAccepted, Refusal>
-    ensures { result ≡ federate_result pack.entry.bytes.now texts.entry.batch.now texts.entry.house.now }
+fn check_packed(federate: Federate) -> Result<FederateAccepted, Refusal>
+    ensures { let f = federate.entry in result ≡ federate_result f.pack.bytes.now f.texts.batch.now f.texts.house.now }
 {
-    let federate = FederateImage::at(pack, 0);
-    let enclaves = count_enclaves(pack);
-    check_own_record(texts, federate, enclaves)?;
-    let links = validate_federate_enclaves(pack, texts, federate.enclaves.0.start)?;
-    validate_federate_route_pairs(pack, texts)?;
+    let own = FederateImage::at(federate.pack, 0);
+    let enclaves = count_enclaves(federate.pack);
+    check_own_record(federate.texts, own, enclaves)?;
+    let links = validate_federate_enclaves(federate, own.enclaves.0.start)?;
+    validate_federate_route_pairs(federate)?;
     Ok(FederateAccepted { enclaves, links })
 }
 
@@ -47,5 +46,5 @@ pub fn check_federate(pack: &[u8], batch: &[u8], house: &[u8]) -> Result<Federat
 {
     let texts = Texts { batch, house };
     let pack = checked_pack(PackKind::Federate, pack, texts)?;
-    check_packed(pack, texts)
+    check_packed(Federate { pack, texts })
 }

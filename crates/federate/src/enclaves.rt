@@ -4,13 +4,13 @@ ghost use Rattle.answers.specs.Checks.{first};
 ghost use Rattle.enclave.specs.Answer.{image_result};
 ghost use Rattle.federate.specs.Enclaves.{index_from, image_at, order_checks, record_answer, enclaves_answer};
 
-use crate::records::{Enclaves, FederateEnclave};
+use crate::records::{Enclaves, FederateEnclave, enclave_pack_to};
 use answers::{IdKind, Refusal, StableId};
-use checks::identities::validate_text_order;
+use checks::identities::validate_id_order;
 use enclave::check::check_image;
 use identity::texts::Texts;
 use packing::starts::{enclave, table_starts};
-use schema::lent::Pack;
+use route_pairs::Federate;
 use schema::row::Stored;
 use schema::rows::EnclaveImage;
 
@@ -29,7 +29,7 @@ impl<'a> FederateEnclave<'a> {
     fn check_own(self, texts: Texts) -> Result<u64, Refusal>
         ensures { let t = texts.entry in result ≡ image_result (image_at self.entry.pack.bytes.now t.batch.now t.house.now self.entry.number) }
     {
-        let own = self.own_pack();
+        let own = enclave_pack_to(self.pack, self.number, self.end);
         let starts = table_starts(own.bytes, 1);
         check_image(&enclave(own, &starts, texts))
     }
@@ -48,7 +48,7 @@ impl<'a> FederateEnclave<'a> {
             index: index_from(start, self.place),
             id: EnclaveImage::at(self.pack, self.number).enclave_id,
         };
-        validate_text_order(id, texts.identity_text(id.id), texts.identity_text(other))
+        validate_id_order(texts, id, other)
     }
 
     // Its own checks, then its identity's.
@@ -61,14 +61,14 @@ impl<'a> FederateEnclave<'a> {
     }
 }
 
-// Every enclave, with the links of all.
+// Every enclave, with the links of all. By `for`: that the sum stays within 64 bits is the loop's invariant, where `try_fold` would ask it of its closure.
 #[tactic(auto, using(crate::proofs::EnclaveLaws::before_laws))]
-pub fn validate_federate_enclaves(pack: Pack, texts: Texts, start: u64) -> Result<u64, Refusal>
-    ensures { let t = texts.entry in result ≡ enclaves_answer pack.entry.bytes.now t.batch.now t.house.now start }
+pub fn validate_federate_enclaves(federate: Federate, start: u64) -> Result<u64, Refusal>
+    ensures { let f = federate.entry in result ≡ enclaves_answer f.pack.bytes.now f.texts.batch.now f.texts.house.now start }
 {
     let mut links = 0;
-    for enclave in Enclaves::of(pack) {
-        links += enclave.check(texts, start)?;
+    for enclave in Enclaves::of(federate.pack) {
+        links += enclave.check(federate.texts, start)?;
     }
     Ok(links)
 }

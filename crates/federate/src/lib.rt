@@ -1,5 +1,4 @@
 // The federate check: its own record, each enclave in turn, then the routes of all enclaves; the first check that fails decides.
-// The pack goes beside its texts: a struct of the two would stand here and be made anew for each enclave.
 #![tactic(auto)]
 
 pub mod check;

@@ -7,6 +7,7 @@ use schema::lent::{Pack, records_of};
 use schema::row::Row;
 use schema::rows::EnclaveImage;
 
+// By a name of its own: what a refusal and the answer show as the enclaves.
 pub fn count_enclaves(pack: Pack) -> u32
     ensures { result ≡ enclaves_of pack.entry.bytes.now }
 {
@@ -24,6 +25,18 @@ pub fn next_enclave(pack: Pack, n: usize) -> usize
         .unwrap_or(records.max(n))
 }
 
+// The pack of the enclave of record n, which ends at record `end`: its records up to there.
+#[tactic(auto, using(crate::proofs::Ends::part_laws))]
+pub fn enclave_pack_to<'a>(pack: Pack<'a>, n: usize, end: usize) -> Pack<'a>
+    requires inside { n < records_of pack.bytes.now }
+    requires own { end ≡ enclave_end pack.bytes.now n }
+    ensures { result.bytes.now ≡ enclave_pack pack.entry.bytes.now n }
+{
+    Pack {
+        bytes: &pack.bytes[n * 64..end * 64],
+    }
+}
+
 // An enclave of a federate pack: its record and the one where it ends, its place among the enclaves, and the record of the enclave before it.
 #[derive(Clone, Copy)]
 pub struct FederateEnclave<'a> {
@@ -37,18 +50,6 @@ pub struct FederateEnclave<'a> {
     ghost own: { end ≡ enclave_end pack.bytes.now number },
     ghost counted: { place ≡ enclaves_before pack.bytes.now number },
     ghost last: { before ≡ last_before pack.bytes.now number },
-}
-
-impl<'a> FederateEnclave<'a> {
-    // Its pack: its records up to its end.
-    #[tactic(auto, using(crate::proofs::Ends::part_laws))]
-    pub fn own_pack(self) -> Pack<'a>
-        ensures { result.bytes.now ≡ enclave_pack self.entry.pack.bytes.now self.entry.number }
-    {
-        Pack {
-            bytes: &self.pack.bytes[self.number * 64..self.end * 64],
-        }
-    }
 }
 
 // The enclaves of a pack from one record on, with how many there are before it, and the last of these.

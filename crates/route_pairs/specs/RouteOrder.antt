@@ -10,11 +10,11 @@ use Rattle.schema.specs.declared.rows.RouteImage.{RouteImage}
 use Rattle.schema.specs.Rows.{route_at}
 use Rattle.schema.specs.Records.{records_of, is_of}
 use Rattle.checks.specs.Identities.{is_equal}
-use Rattle.route_pairs.specs.declared.Routes.{Routes}
+use Rattle.route_pairs.specs.declared.Federate.{Federate}
 use Rattle.route_pairs.specs.RoutePairs.{goes, other_domain, other_delay, route_record_checks}
 
 -- the text that an identity names, and the text of record n's boundary
-abbrev pub text_of : Routes → IdentityPlace → List ℕ
+abbrev pub text_of : Federate → IdentityPlace → List ℕ
 text_of r = identity_text r.texts.batch.now r.texts.house.now
 
 abbrev pub boundary_at : (IdentityPlace → List ℕ) → List ℕ → ℕ → List ℕ
@@ -65,7 +65,7 @@ pub record FirstFault (f : ℕ → List Check) (i n : ℕ) : Type 0 where
   pub stops : i < n → first (f i) ≡ passed → ⊥
 
 -- record i is the first route at fault, or the number of records where none is
-abbrev pub FirstRouteFault : Routes → ℕ → Type 0
+abbrev pub FirstRouteFault : Federate → ℕ → Type 0
 FirstRouteFault r i = FirstFault (route_record_checks (text_of r) r.pack.bytes.now) i (records_of r.pack.bytes.now)
 
 -- P holds of what was found below n, or of n where nothing was

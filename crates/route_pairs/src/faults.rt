@@ -5,7 +5,7 @@ ghost use Rattle.identity.specs.Order.{compared};
 ghost use Rattle.schema.specs.Records.{records_of};
 ghost use Rattle.route_pairs.specs.RouteOrder.{text_of, boundary_at, routes_of, row_order, InOrder, are_halves, parted, fits, FoundBelow, Scanned, FirstRouteFault};
 
-use crate::Routes;
+use crate::Federate;
 use arrayvec::ArrayVec;
 use schema::lent::{PACK_LIMIT, records_of};
 use schema::row::{Row, Stored};
@@ -26,7 +26,7 @@ fn are_halves(a: RouteImage, b: RouteImage) -> bool
         && a.delay_nanos == b.delay_nanos
 }
 
-impl<'a> Routes<'a> {
+impl<'a> Federate<'a> {
     // How many routes the pack has.
     #[tactic(auto, using(crate::proofs::Rows::routes_counted))]
     fn count(self) -> usize

@@ -3,7 +3,6 @@
 
 ghost use Rattle.std.specs.Prelude.{◌≡◌, [], ◌∷◌, Bool};
 ghost use Rattle.std.specs.Bool.{then_some};
-ghost use Rattle.identity.specs.Text.{identity_text};
 ghost use Rattle.identity.specs.Order.{compared};
 ghost use Rattle.answers.specs.Checks.{first, run};
 ghost use Rattle.schema.specs.declared.rows.RouteImage.{RouteImage};
@@ -22,14 +21,14 @@ use schema::lent::{Pack, records_of};
 use schema::row::{Row, Stored};
 use schema::rows::RouteImage;
 
-// The records of a federate, and the two texts that its identities name parts of.
+// A federate: its pack, and the two texts that its identities name parts of.
 #[derive(Clone, Copy)]
-pub struct Routes<'a> {
+pub struct Federate<'a> {
     pub pack: Pack<'a>,
     pub texts: Texts<'a>,
 }
 
-impl<'a> Routes<'a> {
+impl<'a> Federate<'a> {
     // Record k, where it is a route's.
     fn route(self, k: u32) -> Option<RouteImage>
         ensures { let p = self.entry.pack.bytes.now in result ≡ then_some (is_of p 23 k) (route_at p k) }
@@ -117,13 +116,11 @@ impl<'a> Routes<'a> {
 
 // Every route's checks, in the order of the records: only the first at fault is compared with all.
 #[tactic(auto, using(crate::proofs::FirstFault::fault_first, crate::proofs::FirstFault::fault_none))]
-pub fn validate_federate_route_pairs(pack: Pack, texts: Texts) -> Result<(), Refusal>
-    ensures { let p = pack.entry.bytes.now in let text = identity_text texts.entry.batch.now texts.entry.house.now
-        in result ≡ first (run (route_record_checks text p) 0 (records_of p)) }
+pub fn validate_federate_route_pairs(federate: Federate) -> Result<(), Refusal>
+    ensures { let p = federate.entry.pack.bytes.now in result ≡ first (run (route_record_checks (text_of federate.entry) p) 0 (records_of p)) }
 {
-    let routes = Routes { pack, texts };
-    match routes.first_fault() {
-        Some(n) => routes.check_record(n),
+    match federate.first_fault() {
+        Some(n) => federate.check_record(n),
         None => Ok(()),
     }
 }

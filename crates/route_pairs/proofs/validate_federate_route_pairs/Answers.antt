@@ -7,6 +7,6 @@ use Rattle.route_pairs.proofs.validate_federate_route_pairs.Goals as goal
 
 pub returns-in-Some : goal.returns-in-Some
 returns-in-Some c =
-    let p = c.args.pack.bytes.now in
+    let p = c.args.federate.pack.bytes.now in
     let found = c.in-Some.ensures in
-    fault_first (route_record_checks (identity_text c.args.texts.batch.now c.args.texts.house.now) p) c.in-Some.n (records_of p) found.1 c.check_record.result found.0 c.check_record.ensures
+    fault_first (route_record_checks (identity_text c.args.federate.texts.batch.now c.args.federate.texts.house.now) p) c.in-Some.n (records_of p) found.1 c.check_record.result found.0 c.check_record.ensures

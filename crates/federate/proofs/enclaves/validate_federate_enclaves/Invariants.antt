@@ -6,6 +6,6 @@ use Rattle.federate.proofs.enclaves.validate_federate_enclaves.Given as goal
 abbrev pub invariant-loop-enclave : goal.invariant-loop-enclave
 invariant-loop-enclave l =
     record {
-      same : l.enclave-iterator.pack ≡ l.pack;
-      known : Before l.pack.bytes.now l.texts.batch.now l.texts.house.now l.start l.enclave-iterator.next l.links;
+      same : l.enclave-iterator.pack ≡ l.federate.pack;
+      known : Before l.federate.pack.bytes.now l.federate.texts.batch.now l.federate.texts.house.now l.start l.enclave-iterator.next l.links;
     }

@@ -11,7 +11,7 @@ use Rattle.schema.specs.Records.{is_of, records_of}
 use Rattle.checks.specs.Identities.{is_equal}
 use Rattle.route_pairs.specs.RouteOrder.{text_of}
 use Rattle.route_pairs.proofs.Counts.{counted_kept}
-use Rattle.route_pairs.proofs.Routes.halves.Goals as goal
+use Rattle.route_pairs.proofs.Federate.halves.Goals as goal
 
 pub returns : goal.returns
 returns g c test answers =

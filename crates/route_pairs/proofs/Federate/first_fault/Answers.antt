@@ -2,7 +2,7 @@
 use Rattle.std.proofs.Common.{arith}
 use Rattle.route_pairs.specs.RouteOrder.{text_of}
 use Rattle.route_pairs.proofs.FirstFault.{no_routes}
-use Rattle.route_pairs.proofs.Routes.first_fault.Goals as goal
+use Rattle.route_pairs.proofs.Federate.first_fault.Goals as goal
 
 pub returns-in-0 : goal.returns-in-0
 returns-in-0 c =

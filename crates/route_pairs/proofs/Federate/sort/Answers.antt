@@ -2,7 +2,7 @@
 use Rattle.std.proofs.Common.{rules}
 use Rattle.route_pairs.specs.RouteOrder.{text_of, boundary_at}
 use Rattle.route_pairs.proofs.Order.{sorted_rows, in_order}
-use Rattle.route_pairs.proofs.Routes.sort.Goals as goal
+use Rattle.route_pairs.proofs.Federate.sort.Goals as goal
 
 pub returns-clause-sorted : goal.returns-clause-sorted
 returns-clause-sorted c =

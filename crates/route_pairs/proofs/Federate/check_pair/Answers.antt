@@ -3,7 +3,7 @@ use Rattle.std.proofs.Common.{rules}
 use borrow.Author.Tests.{tests}
 use Rattle.answers.specs.Checks.{first}
 use Rattle.route_pairs.specs.RoutePairs.{other_domain, other_delay}
-use Rattle.route_pairs.proofs.Routes.check_pair.Goals as goal
+use Rattle.route_pairs.proofs.Federate.check_pair.Goals as goal
 
 pub returns-in_err-check_alike : goal.returns-in_err-check_alike
 unfolding first

@@ -2,7 +2,7 @@
 use Rattle.route_pairs.specs.RouteOrder.{text_of}
 use Rattle.route_pairs.proofs.Rows.{sorted_back, rows_inside}
 use Rattle.route_pairs.proofs.FirstFault.{fault_found}
-use Rattle.route_pairs.proofs.Routes.first_fault_within.Goals as goal
+use Rattle.route_pairs.proofs.Federate.first_fault_within.Goals as goal
 
 pub least_misfit-requires : goal.least_misfit-requires
 least_misfit-requires g c =

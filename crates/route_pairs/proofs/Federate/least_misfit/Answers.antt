@@ -5,7 +5,7 @@ use Rattle.std.proofs.lemmas.Iterator.{YieldsList-from_range, YieldsList-from_ma
 use Rattle.std.proofs.lemmas.Iterator.Consumers.{YieldsList-at, YieldsList-from_filter, min_from_yields_List}
 use Rattle.route_pairs.specs.RouteOrder.{text_of}
 use Rattle.route_pairs.proofs.Scan.{misfit, row, scan}
-use Rattle.route_pairs.proofs.Routes.least_misfit.Goals as goal
+use Rattle.route_pairs.proofs.Federate.least_misfit.Goals as goal
 
 pub returns : goal.returns
 returns c =
