@@ -52,7 +52,8 @@ impl From<Field> for u8 {
     }
 }
 
-// A field of row `index` of a table.
+// A field of row `index` of a table. Where a row is named without a field, its table and its index stand side by side, as document 01 shows them: a
+// struct of the two would be taken apart for each refusal, and for this one.
 #[derive(Clone, Copy, Debug)]
 pub struct RowField {
     pub table: u8,

@@ -10,14 +10,13 @@ use arrayvec::ArrayVec;
 use identity::IdentityPlace;
 use range::{IndexSpan, SliceRange};
 
-// Two bits of a byte, the lowest first.
+// Two bits of a byte, the lowest first, and three: std makes no byte of them.
 pub fn bits(low: bool, high: bool) -> u8
     ensures { result ≡ spec.bits low high }
 {
     u8::from(low) + 2 * u8::from(high)
 }
 
-// Three bits of a byte, the lowest first.
 pub fn three_bits(low: bool, middle: bool, high: bool) -> u8
     ensures { result ≡ spec.three_bits low middle high }
 {

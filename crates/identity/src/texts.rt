@@ -52,7 +52,7 @@ impl<'a> Texts<'a> {
         part_at(self.named(place), place.start, place.len)
     }
 
-    // The order of two identities by byte, a place outside counting as empty.
+    // The order of two identities by byte, a place outside counting as empty: of the texts that they name, so that it is no `Ord` of the places.
     pub fn compare(self, left: IdentityPlace, right: IdentityPlace) -> Ordering
         ensures { let text = identity_text self.entry.batch.now self.entry.house.now in result ≡ compared (text left) (text right) }
     {

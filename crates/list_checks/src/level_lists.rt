@@ -65,6 +65,7 @@ fn check_triggers<R: Triggering>(e: &Enclave) -> Result<(), Refusal>
     Ok(())
 }
 
+// This and the next: each kind of row by its own definition, as the passes name them.
 #[tactic(auto, unfolding(crate::specs::ListTables::action_trigger_checks))]
 pub fn check_triggers_of_actions(e: &Enclave) -> Result<(), Refusal>
     ensures { let m = image_of e.now in result ≡ first (run (action_trigger_checks m) 0 (m.rows 3)) }

@@ -146,7 +146,8 @@ impl<'a> Named<'a> {
     }
 }
 
-// The checks of all records, as the walker yields them. Where a table has no identities, the clean records of it that follow pass.
+// The checks of all records, as the walker yields them. Where a table has no identities, the clean records of it that follow pass: by `while let`, since
+// such a run moves the walker on, which a `for` would hold. The pack goes beside its texts, which a record's check takes with each record.
 #[tactic(auto, using(answers::proofs::Loops::run_laws))]
 fn check_records(kind: PackKind, pack: Pack, texts: Texts) -> Result<(), Refusal>
     requires { length pack.bytes.now ≤ 4194304 }

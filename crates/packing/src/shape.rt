@@ -125,7 +125,7 @@ const BINDINGS: Shape = Shape {
     ..NO_FIELDS
 };
 
-// Table by table, from 0 on.
+// Table by table, from 0 on: data in an array, since a table is a number.
 static SHAPES: [Shape; TABLES] = [
     FEDERATE, ENCLAVE, REACTORS, ACTIONS, PORTS, REACTIONS, MODES, SCOPES, LEVELS, INDEXES,
     INDEXES, INDEXES, INDEXES, INDEXES, INDEXES, STARTUPS, LEVELS, LIFECYCLES, LIFECYCLES,

@@ -6,6 +6,7 @@ ghost use Rattle.packing.specs.Records.{Walks};
 use schema::lent::Pack;
 use schema::record::Record;
 
+// The place is a number beside the pack, and not a part cut shorter: records are shown by their numbers, and a run moves it on.
 #[derive(Clone, Copy)]
 pub struct RecordWalker<'a> {
     pub pack: Pack<'a>,

@@ -1,4 +1,4 @@
-// The first route at fault: rows sorted by their boundaries, and one pass over neighbours.
+// The first route at fault: rows sorted by their boundaries, and one pass over neighbours. A map from boundaries to routes would ask for memory.
 ghost use Rattle.std.specs.Prelude.{◌≡◌, ◌<◌, ◌≤◌, [], length, slice_index, IsPermutation, IsSorted};
 ghost use Rattle.std.specs.List.{All};
 ghost use Rattle.identity.specs.Order.{compared};
@@ -17,7 +17,7 @@ const SOME_ROUTES: usize = 1024;
 
 const MAX_ROUTES: usize = PACK_LIMIT / 64;
 
-// Whether two routes of one boundary are its two halves.
+// Whether two routes of one boundary are its two halves: no equality, since they differ in their direction, and their ports are free.
 fn are_halves(a: RouteImage, b: RouteImage) -> bool
     ensures { result ≡ are_halves a b }
 {
@@ -49,7 +49,7 @@ impl<'a> Federate<'a> {
         }
     }
 
-    // The order of the boundaries of records a and b.
+    // The order of the boundaries of records a and b: of what the records name in the texts, so that it is no `Ord` of the routes themselves.
     pub fn order_of(self, a: u32, b: u32) -> Ordering
         ensures { let key = boundary_at (text_of self.entry) self.entry.pack.bytes.now in result ≡ compared (key a) (key b) }
     {

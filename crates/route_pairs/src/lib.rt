@@ -39,7 +39,7 @@ impl<'a> Federate<'a> {
         Some(RouteImage::at(self.pack, k as usize))
     }
 
-    // Whether two routes are of one boundary.
+    // Whether two routes are of one boundary: by the texts that they name, which two places may have in common.
     fn same_boundary(self, a: RouteImage, b: RouteImage) -> bool
         ensures { result ≡ is_equal (compared (text_of self.entry a.boundary) (text_of self.entry b.boundary)) }
     {
