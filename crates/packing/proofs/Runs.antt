@@ -1,11 +1,13 @@
 -- Runs of clean records of one table. Assumes nothing.
 use Rattle.std.proofs.Common.{ℕ, zero, suc, ◌+◌, ◌-◌, ◌/◌, ◌<◌, ◌≤◌, Bool, true, false, ◌&&◌, ◌≡◌, refl, ◌∙◌, sym, List, ltb, eqb, length, add-zero, arith}
 use borrow.Author.Tests.{eqb-true, le-leb, ne_eqb}
+use Rattle.std.specs.Prelude.{Option, Some, None, MatchOption}
+use Rattle.std.specs.Option.{unwrap_or}
 use Rattle.answers.specs.Checks.{Check, first, run, passed}
 use Rattle.answers.proofs.Loops.{Remaining, run_next}
 use Rattle.answers.proofs.Laws.{first_past}
 use Rattle.schema.specs.Layout.{layouts}
-use Rattle.schema.specs.Bytes.{byte_of}
+use Rattle.schema.specs.Bytes.{IsRecord, byte_of}
 use Rattle.packing.specs.declared.PackKind.{PackKind}
 use Rattle.packing.specs.declared.PackKind.TheVariants.{Enclave, Federate}
 use Rattle.packing.specs.Shape.{layout_of, shape_of}
@@ -26,42 +28,34 @@ unfolding clean
 clean_parts p t n tail fields kind e a b c =
     rw (a, b, c, e) (parts_turned (head_clean (layout_of (byte_of p n 0)) p n) (tail_clean (layout_of (byte_of p n 0)) p n) _ (kind_clean (byte_of p n 0) p n))
 
--- the records so far are clean ones of the table; what ends the run
-and_next : (F : ℕ → Type 0) (n r : ℕ) → ((j : ℕ) → n ≤ j → j < r → F j) → F r → (j : ℕ) → n ≤ j → j < r + 1 → F j
-and_next F n r f x j l h = below_or_not j r (λ b. f j l b) (λ b. let e : j ≡ r = omega arith in rw e x)
+-- record k is a clean one of table t
+abbrev pub CleanOf : List ℕ → ℕ → ℕ → Type 0
+CleanOf p t k = (byte_of p k 0 ≡ t) × (clean p k ≡ true)
 
-pub run_none : (p : List ℕ) (t n : ℕ) → CleanRun p t n n n
-run_none p t n =
+-- record k is none, where the pack has it
+abbrev pub NotCleanOf : List ℕ → ℕ → ℕ → Type 0
+NotCleanOf p t k = IsRecord p k → byte_of p k 0 ≡ t → clean p k ≡ false
+
+-- what a search through the records from n on, up to limit, finds
+pub searched : (p : List ℕ) (t n limit : ℕ) (r : Option ℕ) → n ≤ limit → limit ≤ length p / 64
+    → MatchOption r ((k : ℕ) → n ≤ k → k < limit → CleanOf p t k) (λ i. (n ≤ i) × (i < limit) × NotCleanOf p t i × ((k : ℕ) → n ≤ k → k < i → CleanOf p t k))
+    → CleanRun p t n limit (unwrap_or r limit)
+searched p t n limit None l w run =
     record {
-      after = omega arith;
+      after = l;
       inside = omega arith;
-      same = λ j l h. absurd (omega arith);
-      tidy = λ j l h. absurd (omega arith);
+      same = λ k a b. (run k a b).0;
+      tidy = λ k a b. (run k a b).1;
       ended = λ h. absurd (omega arith);
     }
-
-module _ (p : List ℕ) (t n r : ℕ) (s : CleanRun p t n r r) where
-  pub run_on : byte_of p r 0 ≡ t → clean p r ≡ true → CleanRun p t n (r + 1) (r + 1)
-  run_on e d =
-      let a = s.after in
-      record {
-        after = omega arith;
-        inside = omega arith;
-        same = and_next (λ j. byte_of p j 0 ≡ t) n r s.same e;
-        tidy = and_next (λ j. clean p j ≡ true) n r s.tidy d;
-        ended = λ h. absurd (omega arith);
-      }
-
-  pub run_all : (limit : ℕ) → r ≤ limit → limit ≤ r → CleanRun p t n limit r
-  run_all limit l h = record { after = s.after; inside = l; same = s.same; tidy = s.tidy; ended = λ g. absurd (omega arith) }
-
-  pub run_other : (limit : ℕ) → r ≤ limit → (byte_of p r 0 ≡ t → ⊥) → CleanRun p t n limit r
-  run_other limit l h = record { after = s.after; inside = l; same = s.same; tidy = s.tidy; ended = λ g e. absurd (h e) }
-
-  pub run_stray : (limit : ℕ) → r ≤ limit → clean p r ≡ false → CleanRun p t n limit r
-  run_stray limit l h = record { after = s.after; inside = l; same = s.same; tidy = s.tidy; ended = λ g e. h }
-
-pub ruleset clean_run_laws = (run_none, run_on, run_all, run_other, run_stray)
+searched p t n limit (Some i) l w (after, below, ended, run) =
+    record {
+      after = after;
+      inside = omega arith;
+      same = λ k a b. (run k a b).0;
+      tidy = λ k a b. (run k a b).1;
+      ended = λ h. ended (omega arith);
+    }
 
 -- a table without identities is none of the first two
 no-identities : (t : ℕ) → (layout_of t).identities ≡ 0 → 2 ≤ t

@@ -88,21 +88,17 @@ pub fn clean(item: Record, table: u8, shape: Shape) -> bool
     rest_zero(item, shape.used) & fields_clean(item, shape) & kind_clean(item, table)
 }
 
-// The first record from n on that is not a clean one of `table`, whose shape it is, or the pack's end.
-// The two stand side by side: a shape found for each record takes half again as long, a struct of the two a sixth more.
-// By a loop: with `(n..pack.records()).find(..)` the check's own search does not prove the answer; no proof by hand was tried.
-#[tactic(auto, using(crate::proofs::Runs::clean_run_laws))]
-pub fn past_clean(pack: Pack, n: usize, table: u8, shape: Shape) -> usize
-    requires from { n ≤ length pack.bytes.now / 64 }
+// The first record from n on, before `end`, that is not a clean one of `table`, whose shape it is, or `end`.
+pub fn past_clean(pack: Pack, n: usize, end: usize, table: u8, shape: Shape) -> usize
+    requires from { n ≤ end }
+    requires inside { end ≤ length pack.bytes.now / 64 }
     requires shaped { shape ≡ shape_of table }
-    ensures { let p = pack.entry.bytes.now in CleanRun p table n (length p / 64) result }
+    ensures { CleanRun pack.entry.bytes.now table n end result }
 {
-    let mut k = n;
-    while let Some(record) = pack.record(k) {
-        if record.table() != table || !clean(record, table, shape) {
-            return k;
-        }
-        k += 1;
-    }
-    k
+    (n..end)
+        .find(|k| {
+            pack.record(*k)
+                .is_none_or(|item| item.table() != table || !clean(item, table, shape))
+        })
+        .unwrap_or(end)
 }

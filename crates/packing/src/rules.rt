@@ -160,7 +160,7 @@ fn check_records(kind: PackKind, pack: Pack, texts: Texts) -> Result<(), Refusal
         let shape = shape_of(table);
         Named { item, texts }.check(kind, shape)?;
         if shape.identities == 0 {
-            walker.place = past_clean(pack, walker.place, table, shape);
+            walker.place = past_clean(pack, walker.place, pack.records(), table, shape);
         }
     }
     Ok(())

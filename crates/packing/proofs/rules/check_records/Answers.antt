@@ -9,8 +9,9 @@ loop-item-preserved-then-shape-eq0 c =
     let bytes = w.yields.0 ∙ ap (λ p. p.bytes) c.loop-item.invariant.same_pack in
     let item = rw (bytes, w.yields.1) at c.table-table.ensures in
     let place : c.next.new.self.place ≡ c.loop-item.walker.place + 1 = search rules in
+    let run = rw c.records.ensures at c.past_clean.ensures in
     record {
       same_pack = search rules;
       inside = search rules;
-      left = run_passed _ _ _ _ c.loop-item.walker.place _ _ _ c.past_clean.ensures c.loop-item.invariant.left place (search rules) item (search rules) (search rules);
+      left = run_passed _ _ _ _ c.loop-item.walker.place _ _ _ run c.loop-item.invariant.left place (search rules) item (search rules) (search rules);
     }
