@@ -1,5 +1,7 @@
 -- Lists of reactions by level (view.rs, `validate_level_ref`, `validate_levels`, `validate_lifecycle`). Assumes nothing.
-use Rattle.std.specs.Prelude.{ℕ, ◌+◌, ◌-◌, ◌%◌, ◌^◌, Bool, not, ◌&&◌, ◌||◌, cond, List, [], ◌∷◌, ◌++◌, ltb, eqb}
+use Rattle.std.specs.Prelude.{ℕ, ◌+◌, ◌-◌, ◌%◌, ◌^◌, not, cond, List, [], ◌∷◌, ◌++◌, eqb}
+use Rattle.std.specs.Ordering.{nat_cmp, ordering_then}
+use Rattle.std.specs.declared.cmp.Ordering.{Ordering}
 use Rattle.answers.specs.declared.Refusal.TheVariants.{DuplicateEntry, EntriesNotSorted, OwnershipMismatch}
 use Rattle.answers.specs.Fields.{row_field}
 use Rattle.answers.specs.declared.field.Field.TheVariants as field
@@ -8,17 +10,15 @@ use Rattle.schema.specs.declared.entries.LevelReactionImage.{LevelReactionImage}
 use Rattle.schema.specs.declared.entries.LifecycleReactionImage.{LifecycleReactionImage}
 use Rattle.checks.specs.Image.{ReactionPart}
 use Rattle.checks.specs.Refs.{ref_to}
+use Rattle.checks.specs.Identities.{is_equal, is_less}
 
 -- the row number shown for entry k of a range: the Rust's `as u32`
 abbrev pub entry_index : ℕ → ℕ → ℕ
 entry_index start k = (start + k) % 2 ^ 32
 
-abbrev pub level_equal : LevelReactionImage → LevelReactionImage → Bool
-level_equal a b = eqb a.level b.level && eqb a.reaction.0 b.reaction.0
-
 -- by level, then by reaction
-abbrev pub level_less : LevelReactionImage → LevelReactionImage → Bool
-level_less a b = ltb a.level b.level || (eqb a.level b.level && ltb a.reaction.0 b.reaction.0)
+abbrev pub level_order : LevelReactionImage → LevelReactionImage → Ordering
+level_order a b = ordering_then (nat_cmp a.level b.level) (nat_cmp a.reaction.0 b.reaction.0)
 
 -- entry i of table t: its reaction is there, and has its level
 abbrev pub level_ref_checks : (ℕ → ℕ) → (ℕ → ReactionPart) → ℕ → ℕ → LevelReactionImage → List Check
@@ -27,12 +27,12 @@ level_ref_checks rows reactions t i e =
     ∷ need (eqb (reactions e.reaction.0).level e.level) (OwnershipMismatch (row_field t i field.DependencyLevel))
     ∷ []
 
--- entry i of table t is above the entry before it
+-- entry i of table t is above the entry before it, where o is how it compares with that one
+abbrev pub order_checks : ℕ → ℕ → Ordering → List Check
+order_checks t i o = need (not (is_equal o)) (DuplicateEntry t i) ∷ need (not (is_less o)) (EntriesNotSorted t i) ∷ []
+
 abbrev pub level_order_checks : ℕ → ℕ → LevelReactionImage → LevelReactionImage → List Check
-level_order_checks t i e before =
-    need (not (level_equal e before)) (DuplicateEntry t i)
-    ∷ need (not (level_less e before)) (EntriesNotSorted t i)
-    ∷ []
+level_order_checks t i e before = order_checks t i (level_order e before)
 
 abbrev pub after_first : ℕ → List Check → List Check
 after_first k cs = cond (eqb k 0) [] cs

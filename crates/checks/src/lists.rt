@@ -4,7 +4,7 @@ ghost use Rattle.answers.specs.Checks.{Check, first};
 ghost use Rattle.schema.specs.Tables.{start_of, rows_of, tables};
 ghost use Rattle.schema.specs.declared.entries.LevelReactionImage.{LevelReactionImage};
 ghost use Rattle.checks.specs.Image.{image_of, stored_at};
-ghost use Rattle.checks.specs.Lists.{entry_index, after_first, level_ref_checks, level_order_checks, entry_checks, listed_checks, range_of_checks, no_more, action_checks, level_of, reaction_of};
+ghost use Rattle.checks.specs.Lists.{entry_index, after_first, level_ref_checks, order_checks, level_order_checks, entry_checks, listed_checks, range_of_checks, no_more, action_checks, level_of, reaction_of};
 
 use crate::refs::{check_exists, check_ref};
 use answers::{Field, Refusal, RowField};
@@ -12,6 +12,7 @@ use range::SliceRange;
 use schema::entries::{LevelReactionImage, LifecycleReactionImage};
 use schema::lent::{Enclave, TableStarts};
 use schema::row::Stored;
+use std::cmp::Ordering;
 
 // An entry that holds a reaction with its level.
 pub trait Listed: Stored {
@@ -91,23 +92,15 @@ pub fn validate_level_ref(
     Ok(())
 }
 
-// An entry is above the one before it. `check_action_order` of list_checks is of this form, by its own definition in document 01: over any order,
-// both would need a law that takes `Ord` back to it.
-fn check_level_order(
-    table: u8,
-    index: u32,
-    entry: LevelReactionImage,
-    before: LevelReactionImage,
-) -> Result<(), Refusal>
-    ensures { result ≡ first (level_order_checks table index entry before) }
+// Entry `index` of a table is above the entry before it, by the order of what they hold.
+pub fn check_order<T: Copy + Ord>(table: u8, index: u32, entry: T, before: T) -> Result<(), Refusal>
+    ensures { result ≡ first (order_checks table index (T.cmp entry before)) }
 {
-    if entry == before {
-        return Err(Refusal::DuplicateEntry { table, index });
+    match entry.cmp(&before) {
+        Ordering::Less => Err(Refusal::EntriesNotSorted { table, index }),
+        Ordering::Equal => Err(Refusal::DuplicateEntry { table, index }),
+        Ordering::Greater => Ok(()),
     }
-    if entry < before {
-        return Err(Refusal::EntriesNotSorted { table, index });
-    }
-    Ok(())
 }
 
 // An entry shown as row `index` of a table, by itself.
@@ -135,7 +128,7 @@ fn check_after<L: Listed>(
         return Ok(());
     }
     let before = L::at(e.pack, e.record(table, start as usize + (k - 1) as usize));
-    check_level_order(table, entry_index(start, k), level, before.level())
+    check_order(table, entry_index(start, k), level, before.level())
 }
 
 // Entry k of the range of a table that begins at `start`: by itself, and after the entry before it.

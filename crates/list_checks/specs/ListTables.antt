@@ -1,6 +1,7 @@
 -- The checks of list tables' entries, and of the ranges of rows that lead to them: view.rs, the loops after the parent walk. Assumes nothing.
-use Rattle.std.specs.Prelude.{◌+◌, ◌-◌, ℕ, not, List, [], ◌∷◌, ◌++◌, ltb, eqb}
-use Rattle.answers.specs.declared.Refusal.TheVariants.{OwnershipMismatch, DuplicateEntry, EntriesNotSorted}
+use Rattle.std.specs.Prelude.{◌+◌, ◌-◌, ℕ, List, [], ◌∷◌, ◌++◌, eqb}
+use Rattle.std.specs.Ordering.{nat_cmp}
+use Rattle.answers.specs.declared.Refusal.TheVariants.{OwnershipMismatch}
 use Rattle.answers.specs.Fields.{row_field}
 use Rattle.answers.specs.declared.field.Field.{Field}
 use Rattle.answers.specs.declared.field.Field.TheVariants as field
@@ -10,7 +11,7 @@ use Rattle.checks.specs.Image.{Image, ReactionPart}
 use Rattle.schema.specs.declared.rows.ModeImage.{ModeImage}
 use Rattle.checks.specs.Refs.{ref_to}
 use Rattle.range.specs.declared.SliceRange.{SliceRange}
-use Rattle.checks.specs.Lists.{entry_index, after_first, entry_checks, no_more, level_of, action_checks, reaction_of, levels_checks, lifecycle_checks, lifecycles_checks}
+use Rattle.checks.specs.Lists.{entry_index, after_first, order_checks, entry_checks, no_more, level_of, action_checks, reaction_of, levels_checks, lifecycle_checks, lifecycles_checks}
 
 -- entry i of table t, which names `named i`, refers in the field f to table g
 unfoldable pub named_checks : ℕ → Field → ℕ → (ℕ → ℕ) → Image → ℕ → List Check
@@ -71,8 +72,7 @@ shutdown_reaction_checks m i = lifecycle_checks m.rows m.reactions m.lifecycles 
 
 -- the shutdown actions: each there, and above the one before
 unfoldable pub index_order_checks : ℕ → ℕ → ℕ → ℕ → List Check
-index_order_checks t i v before =
-    need (not (eqb v before)) (DuplicateEntry t i) ∷ need (not (ltb v before)) (EntriesNotSorted t i) ∷ []
+index_order_checks t i v before = order_checks t i (nat_cmp v before)
 
 unfoldable pub shutdown_action_checks : Image → ℕ → List Check
 shutdown_action_checks m i =

@@ -7,10 +7,10 @@ ghost use Rattle.answers.specs.declared.field.Field.TheVariants as field;
 ghost use Rattle.answers.specs.Checks.{first, run};
 ghost use Rattle.schema.specs.Tables.{start_of, tables};
 ghost use Rattle.checks.specs.Image.{image_of};
-ghost use Rattle.list_checks.specs.ListTables.{named_checks, index_checks, startup_checks, enabled_mode_checks, enabled_modes_checks, index_order_checks, shutdown_action_checks};
+ghost use Rattle.list_checks.specs.ListTables.{named_checks, index_checks, startup_checks, enabled_mode_checks, enabled_modes_checks, shutdown_action_checks};
 
 use answers::{Field, Refusal, RowField};
-use checks::lists::entry_index;
+use checks::lists::{check_order, entry_index};
 use checks::refs::{check_exists, check_ref};
 use range::SliceRange;
 use schema::entries::{ReactionMode, ShutdownAction, TimerStartupImage};
@@ -224,27 +224,8 @@ pub fn check_modes_of_reactions(e: &Enclave) -> Result<(), Refusal>
     Ok(())
 }
 
-// An entry's action is above that of the entry before.
-#[tactic(auto, unfolding(answers::specs::Checks::first, crate::specs::ListTables::index_order_checks))]
-fn check_action_order(
-    table: u8,
-    index: u32,
-    action: ActionIndex,
-    before: ActionIndex,
-) -> Result<(), Refusal>
-    ensures { result ≡ first (index_order_checks table index action.0 before.0) }
-{
-    if action == before {
-        return Err(Refusal::DuplicateEntry { table, index });
-    }
-    if action < before {
-        return Err(Refusal::EntriesNotSorted { table, index });
-    }
-    Ok(())
-}
-
 // Entry i of the shutdown actions names an action that is there, above the one that the entry before names.
-#[tactic(auto, using(answers::proofs::Laws::list_laws), unfolding(answers::specs::Checks::first, crate::specs::ListTables::named_checks, crate::specs::ListTables::index_checks, crate::specs::ListTables::shutdown_action_checks))]
+#[tactic(auto, using(answers::proofs::Laws::list_laws), unfolding(answers::specs::Checks::first, crate::specs::ListTables::named_checks, crate::specs::ListTables::index_checks, crate::specs::ListTables::index_order_checks, crate::specs::ListTables::shutdown_action_checks))]
 fn check_shutdown_action(e: &Enclave, i: u32) -> Result<(), Refusal>
     ensures { result ≡ first (shutdown_action_checks (image_of e.now) i) }
 {
@@ -260,7 +241,7 @@ fn check_shutdown_action(e: &Enclave, i: u32) -> Result<(), Refusal>
         return Ok(());
     }
     let before = e.row_at::<ShutdownAction>((i - 1) as usize).holds;
-    check_action_order(table, i, action, before)
+    check_order(table, i, action, before)
 }
 
 // Every shutdown action.
