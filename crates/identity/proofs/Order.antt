@@ -1,25 +1,26 @@
 -- The order of two texts, byte by byte. Assumes nothing.
-use Prim.Native.Nat.{ℕ, zero, suc, ◌-◌, ◌<◌, ◌≤◌}
+use Prim.Native.Nat.{ℕ, zero, suc, ◌-◌, ◌<◌, ◌≤◌, min}
 use mathlib.Core.Bool.{Bool, true}
 use mathlib.Core.Path.{◌≡◌, refl, ◌∙◌, sym}
-use mathlib.Core.List.{List, [], ◌∷◌}
+use mathlib.Core.List.{List, [], ◌∷◌, ◌++◌}
 use native.Mathlib.Omega.{arith}
 use lib.Dec.{ltb}
 use lib.ListN.{length, get_or, take, drop}
-use borrow.Author.Tests.{ltb-false, lt-ltb, le-ltb, eqb-true}
+use borrow.Author.Tests.{ltb-true, ltb-false, lt-ltb, le-ltb, eqb-true}
 use Rattle.std.specs.declared.cmp.Ordering.TheVariants.{Less, Equal, Greater}
 use Rattle.identity.specs.Order.{compared}
 use Rattle.identity.specs.Scan.{every, same_at}
 use Rattle.identity.proofs.Tests.{cases}
 use Rattle.identity.proofs.Steps.{every-at}
-use Rattle.std.proofs.lemmas.List.{take_rest}
+use Rattle.std.specs.Ordering.{nat_cmp}
+use Rattle.std.specs.Cmp.{nat_cmp_is}
+use Rattle.std.proofs.Math.ListN.{get_or-append}
+use Rattle.std.proofs.lemmas.List.{take_rest, take-append-drop, drop_min, length-take, length-drop, length-append, drop-append-le}
 
--- The order of the texts l and r is that of a and b, what is left of them.
+-- The order of the texts l and r is that of a and b, which are equally long, with what each text has beyond the length of the other.
 pub record Rests (l r a b : List ℕ) : Type 0 where
-  pub same : compared l r ≡ compared a b
-
-pub rests_start : (l r : List ℕ) → Rests l r l r
-rests_start l r = record { same = refl }
+  pub even : length a ≡ length b
+  pub same : compared l r ≡ compared (a ++ drop (length r) l) (b ++ drop (length l) r)
 
 left-over : (a b : List ℕ) → 0 < length a → length b ≡ 0 → compared a b ≡ Greater
 unfolding compared
@@ -64,30 +65,83 @@ run-same (suc k) [] b h g f = absurd (omega arith)
 run-same (suc k) (x ∷ a) [] h g f = absurd (omega arith)
 run-same (suc k) (x ∷ a) (y ∷ b) h g f = heads-same (x ∷ a) (y ∷ b) (omega arith) (omega arith) (f 0 (omega arith)) ∙ run-same k a b (omega arith) (omega arith) (λ i l. f (suc i) (omega arith))
 
+-- the part of a text up to the shorter length, with what is beyond the other's
+whole : (l : List ℕ) (n m : ℕ) → n ≡ min m (length l) → take n l ++ drop m l ≡ l
+whole l n m e = rw (e, ← drop_min m l) (take-append-drop (min m (length l)) l)
+
+pub rests_start : (l r : List ℕ) (n : ℕ) → n ≡ min (length l) (length r) → Rests l r (take n l) (take n r)
+rests_start l r n e =
+    let a : n ≡ min (length r) (length l) = omega arith in
+    record { even = simp length-take (omega arith); same = rw (whole l n (length r) a, whole r n (length l) e) }
+
+-- where neither has anything left, the lengths decide
+over : (l r : List ℕ) → compared (drop (length r) l) (drop (length l) r) ≡ nat_cmp (length l) (length r)
+over l r =
+    let a = length-drop (length r) l in
+    let b = length-drop (length l) r in
+    cases (ltb (length l) (length r))
+    (λ t. let h = ltb-true _ _ t in
+    right-over _ _ (omega arith) (omega arith) ∙ nat_cmp_is _ _ Less h)
+    (λ f. let g = ltb-false _ _ f in
+    cases (ltb (length r) (length l))
+    (λ t. let h = ltb-true _ _ t in
+    left-over _ _ (omega arith) (omega arith) ∙ nat_cmp_is _ _ Greater h)
+    (λ e. let h = ltb-false _ _ e in
+    let q : length l ≡ length r = omega arith in
+    none-over _ _ (omega arith) (omega arith) ∙ nat_cmp_is _ _ Equal q))
+
+none-left : (a x : List ℕ) → length a ≤ 0 → a ++ x ≡ x
+none-left [] x h = refl
+none-left (y ∷ a) x h = absurd (omega arith)
+
 module _ {l r a b : List ℕ} (t : Rests l r a b) where
-  pub rests_left : 0 < length a → length b ≡ 0 → Greater ≡ compared l r
-  rests_left h e = sym (t.same ∙ left-over a b h e)
+  abbrev x : List ℕ
+  x = drop (length r) l
 
-  pub rests_right : length a ≤ 0 → 0 < length b → Less ≡ compared l r
-  rests_right e h = sym (t.same ∙ right-over a b (omega arith) h)
+  abbrev y : List ℕ
+  y = drop (length l) r
 
-  pub rests_none : length a ≤ 0 → length b ≤ 0 → Equal ≡ compared l r
-  rests_none e h = sym (t.same ∙ none-over a b (omega arith) (omega arith))
+  longer : (k : ℕ) (c z : List ℕ) → k ≤ length c → k ≤ length (c ++ z)
+  longer k c z h = simp length-append (omega arith)
 
-  pub rests_below : 0 < length a → (length b ≡ 0 → ⊥) → get_or a 0 0 < get_or b 0 0 → Less ≡ compared l r
-  rests_below h g e = sym (t.same ∙ head-below a b h (omega arith) e)
+  pub rests_over : length a ≤ 0 → nat_cmp (length l) (length r) ≡ compared l r
+  rests_over h =
+      let e = t.even in
+      sym (t.same ∙ rw (none-left a x h, none-left b y (omega arith)) (over l r))
 
-  pub rests_above : 0 < length a → (length b ≡ 0 → ⊥) → get_or b 0 0 < get_or a 0 0 → Greater ≡ compared l r
-  rests_above h g e = sym (t.same ∙ head-above a b h (omega arith) e)
+  pub rests_below : 0 < length a → get_or a 0 0 < get_or b 0 0 → Less ≡ compared l r
+  rests_below h e =
+      let k = t.even in
+      let p = get_or-append a x 0 0 h in
+      let q = get_or-append b y 0 0 (omega arith) in
+      sym (t.same ∙ head-below (a ++ x) (b ++ y) (longer 1 a x h) (longer 1 b y (omega arith)) (omega arith))
 
-  pub rests_step : 0 < length a → (length b ≡ 0 → ⊥) → get_or b 0 0 ≤ get_or a 0 0 → get_or a 0 0 ≤ get_or b 0 0 → Rests l r (take (length a - 1) (drop 1 a)) (take (length b - 1) (drop 1 b))
-  rests_step h g e f = record { same = t.same ∙ heads-same a b h (omega arith) (omega arith) ∙ rw (take_rest a 1, take_rest b 1) }
+  pub rests_above : 0 < length a → get_or b 0 0 < get_or a 0 0 → Greater ≡ compared l r
+  rests_above h e =
+      let k = t.even in
+      let p = get_or-append a x 0 0 h in
+      let q = get_or-append b y 0 0 (omega arith) in
+      sym (t.same ∙ head-above (a ++ x) (b ++ y) (longer 1 a x h) (longer 1 b y (omega arith)) (omega arith))
 
-  pub rests_block : (x : Bool) → x ≡ every (same_at a b) 0 16 → x ≡ true → 16 ≤ length a → 16 ≤ length b → Rests l r (take (length a - 16) (drop 16 a)) (take (length b - 16) (drop 16 b))
-  rests_block x e f h g =
-      record { same = t.same ∙ run-same 16 a b h g (λ i m. eqb-true _ _ (every-at (same_at a b) 0 16 i (sym e ∙ f) (omega arith) (omega arith))) ∙ rw (take_rest a 16, take_rest b 16) }
+  -- the first k bytes, which are the same, left off
+  rests_on : (k : ℕ) → k ≤ length a → ((i : ℕ) → i < k → get_or a i 0 ≡ get_or b i 0) → Rests l r (take (length a - k) (drop k a)) (take (length b - k) (drop k b))
+  rests_on k h f =
+      let e = t.even in
+      let g : k ≤ length b = omega arith in
+      let same : (i : ℕ) → i < k → get_or (a ++ x) i 0 ≡ get_or (b ++ y) i 0 =
+      (λ i m. get_or-append a x 0 i (omega arith) ∙ f i m ∙ sym (get_or-append b y 0 i (omega arith))) in
+      record {
+        even = rw (take_rest a k, take_rest b k) (simp length-drop (omega arith));
+        same = t.same ∙ run-same k (a ++ x) (b ++ y) (longer k a x h) (longer k b y g) same ∙ rw (take_rest a k, take_rest b k, drop-append-le k a x h, drop-append-le k b y g);
+      }
 
-pub ruleset order_laws = (rests_start, rests_block, rests_left, rests_right, rests_none, rests_below, rests_above, rests_step)
+  pub rests_step : 0 < length a → get_or b 0 0 ≤ get_or a 0 0 → get_or a 0 0 ≤ get_or b 0 0 → Rests l r (take (length a - 1) (drop 1 a)) (take (length b - 1) (drop 1 b))
+  rests_step h e f = rests_on 1 h (λ i m. let z : i ≡ 0 = omega arith in rw z (omega arith))
+
+  pub rests_block : (same : Bool) → same ≡ every (same_at a b) 0 16 → same ≡ true → 16 ≤ length a → Rests l r (take (length a - 16) (drop 16 a)) (take (length b - 16) (drop 16 b))
+  rests_block same e f h = rests_on 16 h (λ i m. eqb-true _ _ (every-at (same_at a b) 0 16 i (sym e ∙ f) (omega arith) (omega arith)))
+
+pub ruleset order_laws = (rests_start, rests_block, rests_over, rests_below, rests_above, rests_step)
 
 -- Equal stands for equal texts, and for no others
 pub compared_same : (a : List ℕ) → compared a a ≡ Equal

@@ -20,22 +20,20 @@ fn same_block(left: &[u8], right: &[u8]) -> bool
     same
 }
 
-// The order of two texts, by two places that move on together, each what is left of its text: by blocks while they are the same, then byte by byte.
-// Not `left.cmp(right)`: that a comparison keeps two running places is asked for.
+// The order of two texts, by two places that move on together, each what is left of the part that both are long enough for: by blocks while they are the
+// same, then byte by byte; at the end the shorter text comes first. Not `left.cmp(right)`: that a comparison keeps two running places is asked for.
 #[tactic(auto, using(crate::proofs::Order::order_laws))]
 pub fn compare_bytes(left: &[u8], right: &[u8]) -> Ordering
     ensures { result ≡ compared left.now right.now }
 {
-    let mut a = left;
-    let mut b = right;
-    while 16 <= a.len() && 16 <= b.len() && same_block(a, b) {
+    let common = left.len().min(right.len());
+    let mut a = &left[..common];
+    let mut b = &right[..common];
+    while 16 <= a.len() && same_block(a, b) {
         a = &a[16..];
         b = &b[16..];
     }
     while 0 < a.len() {
-        if b.len() == 0 {
-            return Ordering::Greater;
-        }
         if a[0] < b[0] {
             return Ordering::Less;
         }
@@ -45,9 +43,5 @@ pub fn compare_bytes(left: &[u8], right: &[u8]) -> Ordering
         a = &a[1..];
         b = &b[1..];
     }
-    if 0 < b.len() {
-        Ordering::Less
-    } else {
-        Ordering::Equal
-    }
+    left.len().cmp(&right.len())
 }
