@@ -53,7 +53,7 @@ pub fn enclave_one_action() -> EnclaveImage {
 
 pub fn reactor(root_scope: u32, start: u64, len: u64) -> ReactorImage {
     ReactorImage {
-        root_scope: ScopeIndex(root_scope),
+        root_scope: ScopeIndex::new(root_scope),
         modes: ModeSpan(IndexSpan { start, len }),
         ..ReactorImage::empty()
     }
@@ -69,7 +69,7 @@ pub fn bank_reactor(index: u32, total: u32) -> ReactorImage {
 // A timer with binding 0.
 pub fn bound_timer() -> ActionImage {
     ActionImage {
-        binding: Some(BindingSlotIndex(0)),
+        binding: Some(BindingSlotIndex::new(0)),
         timing: ActionTiming::Timer { period_nanos: None },
         ..ActionImage::empty()
     }
@@ -78,7 +78,7 @@ pub fn bound_timer() -> ActionImage {
 // A standard action with a binding and one trigger.
 pub fn triggering_action(binding: u32) -> ActionImage {
     ActionImage {
-        binding: Some(BindingSlotIndex(binding)),
+        binding: Some(BindingSlotIndex::new(binding)),
         triggers: SliceRange { start: 0, len: 1 },
         ..ActionImage::empty()
     }
@@ -86,7 +86,7 @@ pub fn triggering_action(binding: u32) -> ActionImage {
 
 pub fn port(binding: u32, triggers: u32) -> PortImage {
     PortImage {
-        binding: BindingSlotIndex(binding),
+        binding: BindingSlotIndex::new(binding),
         triggers: SliceRange {
             start: 0,
             len: triggers,
@@ -97,28 +97,28 @@ pub fn port(binding: u32, triggers: u32) -> PortImage {
 
 pub fn reaction(binding: u32) -> ReactionImage {
     ReactionImage {
-        binding: BindingSlotIndex(binding),
+        binding: BindingSlotIndex::new(binding),
         ..ReactionImage::empty()
     }
 }
 
 pub fn mode(reactor: u32, scope: u32) -> ModeImage {
     ModeImage {
-        reactor: ReactorIndex(reactor),
-        scope: ScopeIndex(scope),
+        reactor: ReactorIndex::new(reactor),
+        scope: ScopeIndex::new(scope),
     }
 }
 
 pub fn scope(reactor: u32) -> ScopeImage {
     ScopeImage {
-        reactor: ReactorIndex(reactor),
+        reactor: ReactorIndex::new(reactor),
         ..ScopeImage::empty()
     }
 }
 
 pub fn scope_under(parent: u32) -> ScopeImage {
     ScopeImage {
-        parent: Some(ScopeIndex(parent)),
+        parent: Some(ScopeIndex::new(parent)),
         ..ScopeImage::empty()
     }
 }
@@ -126,7 +126,7 @@ pub fn scope_under(parent: u32) -> ScopeImage {
 // The scope of a mode of reactor 0.
 pub fn mode_scope(mode: u32) -> ScopeImage {
     ScopeImage {
-        mode: Some(ModeIndex(mode)),
+        mode: Some(ModeIndex::new(mode)),
         ..ScopeImage::empty()
     }
 }

@@ -3,8 +3,8 @@ use Rattle.std.specs.Prelude.{ℕ, ◌+◌, Bool, true, false, List, Option, opt
 use Rattle.identity.specs.declared.IdentityPlace.{IdentityPlace}
 use Rattle.identity.specs.Text.{identity_text}
 use Rattle.range.specs.declared.SliceRange.{SliceRange}
-use Rattle.schema.specs.declared.index.ModeIndex.{ModeIndex}
-use Rattle.schema.specs.declared.index.BindingSlotIndex.{BindingSlotIndex}
+use Rattle.schema.specs.Indexes.{ModeIndex}
+use Rattle.schema.specs.Indexes.{BindingSlotIndex}
 use Rattle.schema.specs.declared.index.ModeEffect.{ModeEffect}
 use Rattle.schema.specs.declared.index.ActionTiming.{ActionTiming}
 use Rattle.schema.specs.declared.index.ActionTiming.TheVariants.{Standard, Timer, Shutdown}

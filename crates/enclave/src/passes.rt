@@ -58,7 +58,7 @@ fn check_root(e: &Enclave) -> Result<(), Refusal>
         index: 0,
         field: Field::RootReactor,
     };
-    check_exists(e.starts, at, ReactorIndex(0))
+    check_exists(e.starts, at, ReactorIndex::new(0))
 }
 
 #[tactic(auto, unfolding(answers::specs::Checks::first, answers::specs::Checks::run))]

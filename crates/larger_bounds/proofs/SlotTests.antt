@@ -11,9 +11,9 @@ use Rattle.answers.specs.Checks.{Check, need, run}
 use Rattle.answers.specs.Slots.{is_slot, slots_hold}
 use Rattle.answers.proofs.Slots.{slots-append}
 use Rattle.std.specs.Prelude.{Option, Some, None}
-use Rattle.schema.specs.declared.index.ModeIndex.{ModeIndex}
-use Rattle.schema.specs.declared.index.ScopeIndex.{ScopeIndex}
-use Rattle.schema.specs.declared.index.BindingSlotIndex.{BindingSlotIndex}
+use Rattle.schema.specs.Indexes.{ModeIndex}
+use Rattle.schema.specs.Indexes.{ScopeIndex}
+use Rattle.schema.specs.Indexes.{BindingSlotIndex}
 use Rattle.schema.specs.declared.index.BankInfoImage.{BankInfoImage}
 use Rattle.schema.specs.declared.rows.ModeImage.{ModeImage}
 use Rattle.schema.specs.declared.rows.RequiredBindingImage.{RequiredBindingImage}

@@ -104,7 +104,7 @@ pub fn check_lists_of_scopes(e: &Enclave) -> Result<(), Refusal>
     ensures { let m = image_of e.now in result ≡ first (run (scope_list_checks m) 0 (m.rows 7)) }
 {
     for i in 0..e.rows(ScopeImage::TABLE) {
-        check_lists_of_scope(e, ScopeIndex(i))?;
+        check_lists_of_scope(e, ScopeIndex::new(i))?;
     }
     Ok(())
 }

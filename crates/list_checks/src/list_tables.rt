@@ -19,7 +19,7 @@ use schema::lent::Enclave;
 use schema::row::{Key, Row, Stored};
 use schema::rows::ReactionImage;
 
-// An entry that names a row of another table, in a field. One block for each type, since no macro may write them.
+// An entry that names a row of another table, in a field: each type in its own, so that one block for all keys would need the field of each beside it.
 pub trait Naming: Stored {
     type Named: Key;
 
@@ -219,7 +219,7 @@ pub fn check_modes_of_reactions(e: &Enclave) -> Result<(), Refusal>
     ensures { let m = image_of e.now in result ≡ first (run (enabled_modes_checks m) 0 (m.rows 5)) }
 {
     for i in 0..e.rows(ReactionImage::TABLE) {
-        check_modes_of_reaction(e, ReactionIndex(i))?;
+        check_modes_of_reaction(e, ReactionIndex::new(i))?;
     }
     Ok(())
 }

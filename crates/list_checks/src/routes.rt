@@ -141,9 +141,9 @@ fn check_binding_id(
 pub fn check_binding_ids(e: &Enclave) -> Result<(), Refusal>
     ensures { let m = image_of e.now in result ≡ first (run (binding_id_checks m) 0 (m.rows 24)) }
 {
-    let mut previous = e.texts.identity_text(e.row(BindingSlotIndex(0)).id);
+    let mut previous = e.texts.identity_text(e.row(BindingSlotIndex::new(0)).id);
     for i in 0..e.rows(RequiredBindingImage::TABLE) {
-        let id = e.row(BindingSlotIndex(i)).id;
+        let id = e.row(BindingSlotIndex::new(i)).id;
         let text = e.texts.identity_text(id);
         check_binding_id(i, id, text, previous)?;
         previous = text;

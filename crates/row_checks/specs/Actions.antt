@@ -4,7 +4,7 @@ use Rattle.answers.specs.declared.Refusal.TheVariants.{BindingPresenceMismatch}
 use Rattle.answers.specs.Fields.{row_field}
 use Rattle.answers.specs.declared.field.Field.TheVariants as field
 use Rattle.answers.specs.Checks.{Check, need}
-use Rattle.schema.specs.declared.index.BindingSlotIndex.{BindingSlotIndex}
+use Rattle.schema.specs.Indexes.{BindingSlotIndex}
 use Rattle.schema.specs.declared.index.BindingKind.TheVariants.{Action}
 use Rattle.schema.specs.declared.rows.RequiredBindingImage.{RequiredBindingImage}
 use Rattle.checks.specs.Image.{Image, ActionPart}

@@ -5,7 +5,7 @@ use Rattle.answers.specs.Fields.{row_field}
 use Rattle.answers.specs.declared.field.Field.TheVariants as field
 use Rattle.answers.specs.Checks.{Check, need}
 use Rattle.schema.specs.declared.index.BindingKind.TheVariants.{Reaction}
-use Rattle.schema.specs.declared.index.ModeIndex.{ModeIndex}
+use Rattle.schema.specs.Indexes.{ModeIndex}
 use Rattle.schema.specs.declared.rows.ModeImage.{ModeImage}
 use Rattle.checks.specs.Image.{Image, ReactionPart}
 use Rattle.checks.specs.Refs.{ref_to, range_checks, range_end, end_before}

@@ -6,7 +6,7 @@ use Rattle.answers.specs.declared.Refusal.TheVariants.{OwnershipMismatch, Invali
 use Rattle.answers.specs.Fields.{row_field}
 use Rattle.answers.specs.declared.field.Field.TheVariants as field
 use Rattle.answers.specs.Checks.{Check, need}
-use Rattle.schema.specs.declared.index.ModeIndex.{ModeIndex}
+use Rattle.schema.specs.Indexes.{ModeIndex}
 use Rattle.schema.specs.declared.index.BankInfoImage.{BankInfoImage}
 use Rattle.schema.specs.declared.index.BindingKind.TheVariants.{StateInitializer}
 use Rattle.schema.specs.declared.rows.ReactorImage.{ReactorImage}

@@ -58,8 +58,8 @@ pub fn check_actions(e: &Enclave) -> Result<(), Refusal>
 {
     let mut previous_end = 0;
     for i in 0..e.rows(ActionImage::TABLE) {
-        let row = e.row(ActionIndex(i));
-        check_action_row(e, ActionIndex(i), row, previous_end)?;
+        let row = e.row(ActionIndex::new(i));
+        check_action_row(e, ActionIndex::new(i), row, previous_end)?;
         previous_end = row.triggers.saturating_end();
     }
     Ok(())

@@ -50,7 +50,7 @@ pub fn check_modes(e: &Enclave) -> Result<(), Refusal>
     ensures { let m = image_of e.now in result ≡ first (run (mode_checks m) 0 (m.rows 6)) }
 {
     for i in 0..e.rows(ModeImage::TABLE) {
-        check_mode_row(e, ModeIndex(i), e.row(ModeIndex(i)))?;
+        check_mode_row(e, ModeIndex::new(i), e.row(ModeIndex::new(i)))?;
     }
     Ok(())
 }

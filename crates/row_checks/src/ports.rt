@@ -41,8 +41,8 @@ pub fn check_ports(e: &Enclave) -> Result<(), Refusal>
 {
     let mut previous_end = 0;
     for i in 0..e.rows(PortImage::TABLE) {
-        let row = e.row(PortIndex(i));
-        check_port_row(e, PortIndex(i), row, previous_end)?;
+        let row = e.row(PortIndex::new(i));
+        check_port_row(e, PortIndex::new(i), row, previous_end)?;
         previous_end = row.triggers.saturating_end();
     }
     Ok(())

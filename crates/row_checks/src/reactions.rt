@@ -124,8 +124,8 @@ pub fn check_reactions(e: &Enclave) -> Result<(), Refusal>
 {
     let mut previous = ReactionEnds::default();
     for i in 0..e.rows(ReactionImage::TABLE) {
-        let row = e.row(ReactionIndex(i));
-        check_reaction_row(e, ReactionIndex(i), row, previous)?;
+        let row = e.row(ReactionIndex::new(i));
+        check_reaction_row(e, ReactionIndex::new(i), row, previous)?;
         previous = ends_of(row);
     }
     Ok(())

@@ -102,8 +102,8 @@ pub fn check_reactors(e: &Enclave) -> Result<(), Refusal>
 {
     let mut previous_end = 0;
     for i in 0..e.rows(ReactorImage::TABLE) {
-        let row = e.row(ReactorIndex(i));
-        check_reactor_row(e, ReactorIndex(i), row, previous_end)?;
+        let row = e.row(ReactorIndex::new(i));
+        check_reactor_row(e, ReactorIndex::new(i), row, previous_end)?;
         previous_end = row.modes.0.saturating_end();
     }
     Ok(())

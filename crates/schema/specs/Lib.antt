@@ -7,3 +7,4 @@ pub mod Past
 pub mod Tables
 pub mod Records
 pub mod Keys
+pub mod Indexes

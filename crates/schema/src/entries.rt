@@ -45,7 +45,7 @@ impl Stored for LevelReactionImage {
     fn of(from: Record) -> Self {
         LevelReactionImage {
             level: from.word(4),
-            reaction: ReactionIndex(from.word(8)),
+            reaction: ReactionIndex::new(from.word(8)),
         }
     }
 }
@@ -63,7 +63,7 @@ impl Stored for TimerStartupImage {
 
     fn of(from: Record) -> Self {
         TimerStartupImage {
-            action: ActionIndex(from.word(4)),
+            action: ActionIndex::new(from.word(4)),
             logical_delay_nanos: from.long(8),
         }
     }
@@ -84,9 +84,9 @@ impl Stored for LifecycleReactionImage {
         LifecycleReactionImage {
             reaction: LevelReactionImage {
                 level: from.word(4),
-                reaction: ReactionIndex(from.word(8)),
+                reaction: ReactionIndex::new(from.word(8)),
             },
-            action: ActionIndex(from.word(12)),
+            action: ActionIndex::new(from.word(12)),
         }
     }
 }

@@ -3,28 +3,31 @@ ghost use Rattle.std.specs.Prelude.{◌≡◌, ◌<◌, ◌^◌};
 ghost use Rattle.schema.specs.Rows.{index_at, transition_of, timing_of, kind_of, direction_of, domain_of};
 ghost use Rattle.schema.specs.Records.{direction_number};
 
-// A tuple struct for each table, since a key of one table is none of another's. One struct over a row type would need its own impls of all that is
-// derived here.
+// A key of table T: a key of one table is none of another's.
 #[derive(Clone, Copy, Default, PartialEq, Eq, PartialOrd, Ord)]
-pub struct ReactorIndex(pub u32);
+pub struct Index<const T: u8>(pub u32);
 
-#[derive(Clone, Copy, Default, PartialEq, Eq, PartialOrd, Ord)]
-pub struct ScopeIndex(pub u32);
+pub type ReactorIndex = Index<2>;
 
-#[derive(Clone, Copy, Default, PartialEq, Eq, PartialOrd, Ord)]
-pub struct ModeIndex(pub u32);
+pub type ActionIndex = Index<3>;
 
-#[derive(Clone, Copy, Default, PartialEq, Eq, PartialOrd, Ord)]
-pub struct ActionIndex(pub u32);
+pub type PortIndex = Index<4>;
 
-#[derive(Clone, Copy, Default, PartialEq, Eq, PartialOrd, Ord)]
-pub struct PortIndex(pub u32);
+pub type ReactionIndex = Index<5>;
 
-#[derive(Clone, Copy, Default, PartialEq, Eq, PartialOrd, Ord)]
-pub struct ReactionIndex(pub u32);
+pub type ModeIndex = Index<6>;
 
-#[derive(Clone, Copy, Default, PartialEq, Eq, PartialOrd, Ord)]
-pub struct BindingSlotIndex(pub u32);
+pub type ScopeIndex = Index<7>;
+
+pub type BindingSlotIndex = Index<24>;
+
+impl<const T: u8> Index<T> {
+    pub fn new(number: u32) -> Self
+        ensures { result ≡ record { 0 = number } }
+    {
+        Index(number)
+    }
+}
 
 #[derive(Clone, Copy)]
 pub struct BankInfoImage {

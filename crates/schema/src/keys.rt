@@ -1,181 +1,108 @@
-// The index types as keys of their tables, and those that the records of lists hold. One block for each type, since no macro may write them.
+// The index types as keys of their tables, and what the records of lists hold of them.
 #![tactic(auto, unfolding(crate::specs::Rows::index_at))]
 
-ghost use Rattle.std.specs.Prelude.{◌≡◌, refl};
+ghost use Rattle.std.specs.Prelude.{◌≡◌, ◌<◌, refl};
+ghost use Rattle.std.proofs.Common.{rules};
 ghost use Rattle.schema.specs.Rows.{index_at};
+ghost use Rattle.schema.specs.Tables.{tables};
 ghost use Rattle.schema.specs.Keys.{known_2, known_3, known_4, known_5, known_6, known_7, known_24};
 ghost use Rattle.schema.specs.Past.{index_past};
 
 use crate::index::{
-    ActionIndex, BindingSlotIndex, ModeIndex, PortIndex, ReactionIndex, ReactorIndex, ScopeIndex,
+    ActionIndex, BindingSlotIndex, Index, ModeIndex, PortIndex, ReactionIndex, ReactorIndex,
+    ScopeIndex,
 };
 use crate::record::Record;
-use crate::row::{Key, ListKey, Stored};
+use crate::row::{Key, ListKey, Row, Stored};
 use crate::rows::{
     ActionImage, ModeImage, PortImage, ReactionImage, ReactorImage, RequiredBindingImage,
     ScopeImage,
 };
 
-impl Key for ReactorIndex {
+// The row type of a key's table.
+pub trait Keyed {
+    type Row: Row;
+
+    // Its table is one of a pack's.
+    ghost known: { Self.Row.TABLE < tables };
+}
+
+impl<const T: u8> Key for Index<T>
+where
+    Index<T>: Keyed,
+{
+    type Row = <Index<T> as Keyed>::Row;
+
+    ghost number = { λ k. k.0 };
+
+    ghost known = { Prim.search rules };
+
+    fn number(self) -> u32 {
+        self.0
+    }
+}
+
+impl<const T: u8> Stored for Index<T> {
+    ghost at = { λ p n. record { 0 = index_at p n } };
+
+    ghost zeros = { record { 0 = 0 } };
+
+    ghost past = { λ p n h w e. record { 0 = index_past p n h w e } };
+
+    fn empty() -> Self {
+        Self::default()
+    }
+
+    fn of(from: Record) -> Self {
+        Index(from.word(4))
+    }
+}
+
+impl<const T: u8> ListKey for Index<T>
+where
+    Index<T>: Keyed,
+{
+    ghost stored = { λ p n. refl };
+}
+
+impl Keyed for ReactorIndex {
     type Row = ReactorImage;
 
-    ghost number = { λ k. k.0 };
-
     ghost known = { known_2 };
-
-    fn number(self) -> u32 {
-        self.0
-    }
 }
 
-impl Key for ActionIndex {
+impl Keyed for ActionIndex {
     type Row = ActionImage;
 
-    ghost number = { λ k. k.0 };
-
     ghost known = { known_3 };
-
-    fn number(self) -> u32 {
-        self.0
-    }
 }
 
-impl Key for PortIndex {
+impl Keyed for PortIndex {
     type Row = PortImage;
 
-    ghost number = { λ k. k.0 };
-
     ghost known = { known_4 };
-
-    fn number(self) -> u32 {
-        self.0
-    }
 }
 
-impl Key for ReactionIndex {
+impl Keyed for ReactionIndex {
     type Row = ReactionImage;
 
-    ghost number = { λ k. k.0 };
-
     ghost known = { known_5 };
-
-    fn number(self) -> u32 {
-        self.0
-    }
 }
 
-impl Key for ModeIndex {
+impl Keyed for ModeIndex {
     type Row = ModeImage;
 
-    ghost number = { λ k. k.0 };
-
     ghost known = { known_6 };
-
-    fn number(self) -> u32 {
-        self.0
-    }
 }
 
-impl Key for ScopeIndex {
+impl Keyed for ScopeIndex {
     type Row = ScopeImage;
 
-    ghost number = { λ k. k.0 };
-
     ghost known = { known_7 };
-
-    fn number(self) -> u32 {
-        self.0
-    }
 }
 
-impl Key for BindingSlotIndex {
+impl Keyed for BindingSlotIndex {
     type Row = RequiredBindingImage;
 
-    ghost number = { λ k. k.0 };
-
     ghost known = { known_24 };
-
-    fn number(self) -> u32 {
-        self.0
-    }
-}
-
-impl Stored for ActionIndex {
-    ghost at = { λ p n. record { 0 = index_at p n } };
-
-    ghost zeros = { record { 0 = 0 } };
-
-    ghost past = { λ p n h w e. record { 0 = index_past p n h w e } };
-
-    fn empty() -> Self {
-        Self::default()
-    }
-
-    fn of(from: Record) -> Self {
-        ActionIndex(from.word(4))
-    }
-}
-
-impl ListKey for ActionIndex {
-    ghost stored = { λ p n. refl };
-}
-
-impl Stored for PortIndex {
-    ghost at = { λ p n. record { 0 = index_at p n } };
-
-    ghost zeros = { record { 0 = 0 } };
-
-    ghost past = { λ p n h w e. record { 0 = index_past p n h w e } };
-
-    fn empty() -> Self {
-        Self::default()
-    }
-
-    fn of(from: Record) -> Self {
-        PortIndex(from.word(4))
-    }
-}
-
-impl ListKey for PortIndex {
-    ghost stored = { λ p n. refl };
-}
-
-impl Stored for ModeIndex {
-    ghost at = { λ p n. record { 0 = index_at p n } };
-
-    ghost zeros = { record { 0 = 0 } };
-
-    ghost past = { λ p n h w e. record { 0 = index_past p n h w e } };
-
-    fn empty() -> Self {
-        Self::default()
-    }
-
-    fn of(from: Record) -> Self {
-        ModeIndex(from.word(4))
-    }
-}
-
-impl ListKey for ModeIndex {
-    ghost stored = { λ p n. refl };
-}
-
-impl Stored for ScopeIndex {
-    ghost at = { λ p n. record { 0 = index_at p n } };
-
-    ghost zeros = { record { 0 = 0 } };
-
-    ghost past = { λ p n h w e. record { 0 = index_past p n h w e } };
-
-    fn empty() -> Self {
-        Self::default()
-    }
-
-    fn of(from: Record) -> Self {
-        ScopeIndex(from.word(4))
-    }
-}
-
-impl ListKey for ScopeIndex {
-    ghost stored = { λ p n. refl };
 }

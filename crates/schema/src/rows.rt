@@ -186,11 +186,11 @@ impl Stored for ReactorImage {
 
     fn of(from: Record) -> Self {
         ReactorImage {
-            state_binding: BindingSlotIndex(from.word(4)),
+            state_binding: BindingSlotIndex::new(from.word(4)),
             state_slot: from.word(8),
-            root_scope: ScopeIndex(from.word(12)),
+            root_scope: ScopeIndex::new(from.word(12)),
             modes: ModeSpan(from.span(16)),
-            initial_mode: from.has(0).then_some(ModeIndex(from.word(32))),
+            initial_mode: from.has(0).then_some(ModeIndex::new(from.word(32))),
             bank: from.has(1).then_some(BankInfoImage {
                 index: from.word(36),
                 total: from.word(40),
@@ -215,7 +215,7 @@ impl Stored for ActionImage {
     // By hand: the first kind of timing has a delay, so that `ActionTiming` derives no `Default`.
     fn empty() -> Self {
         ActionImage {
-            scope: ScopeIndex(0),
+            scope: ScopeIndex::new(0),
             storage_slot: 0,
             binding: None,
             timing: ActionTiming::Standard {
@@ -228,9 +228,9 @@ impl Stored for ActionImage {
 
     fn of(from: Record) -> Self {
         ActionImage {
-            scope: ScopeIndex(from.word(4)),
+            scope: ScopeIndex::new(from.word(4)),
             storage_slot: from.word(8),
-            binding: from.has(0).then_some(BindingSlotIndex(from.word(12))),
+            binding: from.has(0).then_some(BindingSlotIndex::new(from.word(12))),
             timing: ActionTiming::of(from.byte(2), from.has(1), from.long(16)),
             triggers: from.range(24),
         }
@@ -256,8 +256,8 @@ impl Stored for PortImage {
 
     fn of(from: Record) -> Self {
         PortImage {
-            binding: BindingSlotIndex(from.word(4)),
-            scope: ScopeIndex(from.word(8)),
+            binding: BindingSlotIndex::new(from.word(4)),
+            scope: ScopeIndex::new(from.word(8)),
             triggers: from.range(12),
         }
     }
@@ -283,17 +283,17 @@ impl Stored for ReactionImage {
     fn of(from: Record) -> Self {
         ReactionImage {
             external_effect: from.has(0),
-            reactor: ReactorIndex(from.word(4)),
-            scope: ScopeIndex(from.word(8)),
+            reactor: ReactorIndex::new(from.word(4)),
+            scope: ScopeIndex::new(from.word(8)),
             dependency_level: from.word(12),
-            binding: BindingSlotIndex(from.word(16)),
+            binding: BindingSlotIndex::new(from.word(16)),
             use_ports: from.range(20),
             effect_ports: from.range(28),
             actions: from.range(36),
             enabled_modes: from.range(44),
             mode_effect: from.has(1).then_some(ModeEffect {
                 transition: Transition::from(from.byte(2)),
-                target: ModeIndex(from.word(52)),
+                target: ModeIndex::new(from.word(52)),
             }),
         }
     }
@@ -318,8 +318,8 @@ impl Stored for ModeImage {
 
     fn of(from: Record) -> Self {
         ModeImage {
-            reactor: ReactorIndex(from.word(4)),
-            scope: ScopeIndex(from.word(8)),
+            reactor: ReactorIndex::new(from.word(4)),
+            scope: ScopeIndex::new(from.word(8)),
         }
     }
 }
@@ -343,9 +343,9 @@ impl Stored for ScopeImage {
 
     fn of(from: Record) -> Self {
         ScopeImage {
-            parent: from.has(0).then_some(ScopeIndex(from.word(4))),
-            reactor: ReactorIndex(from.word(8)),
-            mode: from.has(1).then_some(ModeIndex(from.word(12))),
+            parent: from.has(0).then_some(ScopeIndex::new(from.word(4))),
+            reactor: ReactorIndex::new(from.word(8)),
+            mode: from.has(1).then_some(ModeIndex::new(from.word(12))),
             descendants: from.range(16),
             logical_actions: from.range(24),
             timer_startups: from.range(32),
@@ -377,7 +377,7 @@ impl Stored for RouteImage {
         let kinds = from.byte(2);
         RouteImage {
             boundary: from.place(from.has(0), 4),
-            local_port: PortIndex(from.word(12)),
+            local_port: PortIndex::new(from.word(12)),
             direction: RouteDirection::from(has_bit(kinds, 0)),
             timing_domain: TimingDomain::from(has_bit(kinds, 1)),
             delay_nanos: from.long(16),

@@ -1,7 +1,7 @@
 -- Parent links: how many there can be, how a walk follows them, and the sum over the scopes. Assumes nothing.
 use Rattle.std.proofs.Common.{ℕ, zero, suc, ◌+◌, ◌-◌, ◌*◌, ◌^◌, ◌<◌, ◌≤◌, ◌≡◌, min, refl, arith, add-one}
 use Rattle.std.proofs.Math.Nat.{suc-mul, mul-le-mul}
-use Rattle.schema.specs.declared.index.ScopeIndex.{ScopeIndex}
+use Rattle.schema.specs.Indexes.{ScopeIndex}
 use Rattle.std.specs.Prelude.{Option, Some, None, Err}
 use Rattle.answers.specs.declared.Refusal.TheVariants.{ScopeParentCycle}
 use Rattle.answers.specs.Checks.{first, passed}

@@ -4,7 +4,7 @@ use Rattle.std.specs.Prelude.{ℕ, zero, suc, ◌+◌, List, [], ◌∷◌, ltb,
 use Rattle.answers.specs.declared.Refusal.TheVariants.{ScopeParentCycle}
 use Rattle.answers.specs.Checks.{Check, need}
 use Rattle.checks.specs.Image.{Image}
-use Rattle.schema.specs.declared.index.ScopeIndex.{ScopeIndex}
+use Rattle.schema.specs.Indexes.{ScopeIndex}
 
 -- how many parents are followed from the reference r on, at most k
 unfoldable pub followed : (ℕ → Option ScopeIndex) → ℕ → Option ScopeIndex → ℕ

@@ -4,8 +4,8 @@ use Rattle.answers.specs.declared.Refusal.TheVariants.{OwnershipMismatch}
 use Rattle.answers.specs.Fields.{row_field}
 use Rattle.answers.specs.declared.field.Field.TheVariants as field
 use Rattle.answers.specs.Checks.{Check, need}
-use Rattle.schema.specs.declared.index.ScopeIndex.{ScopeIndex}
-use Rattle.schema.specs.declared.index.ModeIndex.{ModeIndex}
+use Rattle.schema.specs.Indexes.{ScopeIndex}
+use Rattle.schema.specs.Indexes.{ModeIndex}
 use Rattle.schema.specs.declared.rows.ModeImage.{ModeImage}
 use Rattle.schema.specs.declared.rows.ScopeImage.{ScopeImage}
 use Rattle.checks.specs.Image.{Image}

@@ -84,11 +84,11 @@ fn follow_parents(e: &Enclave, depths: &mut [u32]) -> Result<u64, Refusal>
     let scopes = e.rows(ScopeImage::TABLE);
     let mut links: u64 = 0;
     for i in 0..scopes {
-        let followed = links_by(e, depths, ScopeIndex(i));
+        let followed = links_by(e, depths, ScopeIndex::new(i));
         if followed >= scopes {
             return Err(Refusal::ScopeParentCycle { scope: i });
         }
-        settle(e, depths, ScopeIndex(i), followed + 1);
+        settle(e, depths, ScopeIndex::new(i), followed + 1);
         links += u64::from(followed);
     }
     Ok(links)

@@ -18,8 +18,8 @@ pub fn check_scopes(e: &Enclave) -> Result<(), Refusal>
 {
     let mut ends = ScopeEnds::default();
     for i in 0..e.rows(ScopeImage::TABLE) {
-        let row = e.row(ScopeIndex(i));
-        check_scope_row(e, ScopeIndex(i), row, &mut ends)?;
+        let row = e.row(ScopeIndex::new(i));
+        check_scope_row(e, ScopeIndex::new(i), row, &mut ends)?;
     }
     Ok(())
 }
