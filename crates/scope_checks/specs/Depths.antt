@@ -1,4 +1,5 @@
--- Depths of scopes, for the walk that finds each scope's links once. Only inner functions' contracts use them: no promise does. Assumes nothing.
+-- Depths of scopes, for the walk that finds each scope's links once. No promise is about them: `links_by` asks that those lent to it are right, and
+-- where none are lent they are. Assumes nothing.
 use Rattle.std.specs.Prelude.{ℕ, ◌+◌, ◌<◌, List, ◌≡◌, get_or, Result}
 use Rattle.answers.specs.declared.Refusal.{Refusal}
 use Rattle.answers.specs.Checks.{first, run, answer_of}

@@ -36,9 +36,9 @@ pub fn parent_of(e: &Enclave, scope: ScopeIndex) -> Option<ScopeIndex>
     e.row(scope).parent
 }
 
-// The links of a scope: parents followed until none, or until as many as there are scopes. It ends at the first whose depth is known.
+// The links of a scope: parents followed until none, or until as many as there are scopes. It ends at the first whose depth is known; a caller may lend none.
 #[tactic(auto, using(crate::proofs::LinksLaws::followed_laws), unfolding(crate::specs::Depths::Known))]
-fn links_by(e: &Enclave, depths: &[u32], scope: ScopeIndex) -> u32
+pub fn links_by(e: &Enclave, depths: &[u32], scope: ScopeIndex) -> u32
     requires { Known (image_of e.now) depths.now }
     ensures { let m = image_of e.now in result ≡ links_of (parents m) (m.rows 7) scope.0 }
 {
