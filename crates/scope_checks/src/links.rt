@@ -75,7 +75,8 @@ fn settle(e: &Enclave, depths: &mut [u32], mut scope: ScopeIndex, mut depth: u32
     }
 }
 
-// The parents of every scope. Scopes past the depths' array are walked to the end each time.
+// The parents of every scope. Scopes past the depths' array are walked to the end each time. By `for`: each step may refuse, and writes depths, which `sum`
+// would leave to a closure.
 #[tactic(auto, using(answers::proofs::Loops::run_laws, crate::proofs::LinksLaws::below_laws), unfolding(crate::specs::Links::links_below))]
 fn follow_parents(e: &Enclave, depths: &mut [u32]) -> Result<u64, Refusal>
     requires { Known (image_of e.now) depths.old }
