@@ -53,7 +53,7 @@ impl From<Field> for u8 {
 }
 
 // A field of row `index` of a table. Where a row is named without a field, its table and its index stand side by side, as document 01 shows them: a
-// struct of the two would be taken apart for each refusal, and for this one.
+// struct of the two would be taken apart for each refusal, and wherever a field is added to them.
 #[derive(Clone, Copy, Debug)]
 pub struct RowField {
     pub table: u8,
@@ -73,6 +73,7 @@ impl RowField {
         }
     }
 
+    // Three of a refusal's numbers, as `StableId` has five: parts of one list, and no conversion to one value.
     pub fn numbers(self) -> [u64; 3]
         ensures { result ≡ located self [] }
     {

@@ -16,7 +16,8 @@ use schema::index::RouteDirection;
 use std::error::Error;
 use std::fmt;
 
-// One variant for each refusal of document 01, named as the Rust names it; 1 to 6 are the packing rules'.
+// One variant for each refusal of document 01, named as the Rust names it; 1 to 6 are the packing rules'. Which text is too long is shown by the bit that
+// tells an identity's text, 0 for the batch and 1 for the house.
 #[derive(Clone, Copy, Debug)]
 pub enum Refusal {
     Length,

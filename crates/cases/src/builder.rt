@@ -23,7 +23,7 @@ pub fn three_bits(low: bool, middle: bool, high: bool) -> u8
     bits(low, middle) + 4 * u8::from(high)
 }
 
-// The bytes of a record that are written so far.
+// The bytes of a record that are written so far: room for one record, since nothing here asks for memory. Each number asks for room of its own width.
 #[derive(Drop)]
 pub struct RecordBuilder {
     pub bytes: ArrayVec<u8, 64>,

@@ -17,7 +17,8 @@ use schema::rows::{
 // A record of a pack.
 pub type RecordBytes = [u8; 64];
 
-// A row that is written as a record.
+// A row that is written as a record. One block for each type, as in `schema`: no macro may write them, and each has its own fields. Byte 2 of a kind is
+// its place among the variants (`as u8`), in the order of document 01.
 pub trait Recorded: Row {
     ghost bytes: { Self → List ℕ };
 

@@ -1,4 +1,4 @@
-// A line for each case: its name, and the answer of the check for its pack.
+// A line for each case: its name, and the answer of the check for its pack. The runtime goes beside a name, as it goes to all that prints.
 use anyhow::Result;
 use cases::records::{Pack, RecordBytes, Recorded, put};
 use enclave::check::check_enclave;

@@ -40,7 +40,7 @@ pub fn validate_text_order(id: StableId, text: &[u8], previous: &[u8]) -> Result
     }
 }
 
-// The same, both by their places.
+// An identity of a row differs from the one before, and is not below it, both by their places.
 pub fn validate_id_order(texts: Texts, id: StableId, before: IdentityPlace) -> Result<(), Refusal>
     ensures { let t = texts.entry in result ≡ first (id_order_checks (identity_text t.batch.now t.house.now) id.kind id.index id.id before) }
 {

@@ -6,6 +6,7 @@ ghost use Rattle.checks.specs.Refs.{length_check, ref_to, looked_up, span_checks
 
 use answers::{Refusal, RowField};
 use range::{IndexSpan, SliceRange};
+use schema::index::KEYS;
 use schema::lent::{Pack, TableStarts};
 use schema::row::{Key, Row, Stored};
 
@@ -30,7 +31,7 @@ pub fn check_enclave_len(starts: &TableStarts, table: u8) -> Result<(), Refusal>
     requires { table < tables }
     ensures { result ≡ first (length_check (rows_of starts.now.firsts) table ∷ []) }
 {
-    if u64::from(starts.rows(table)) <= 0x1_0000_0000 {
+    if u64::from(starts.rows(table)) <= KEYS {
         Ok(())
     } else {
         Err(Refusal::TableTooLarge { table })

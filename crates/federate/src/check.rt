@@ -2,8 +2,6 @@
 ghost use Rattle.std.specs.Prelude.{◌≡◌, [], ◌∷◌, ◌++◌};
 ghost use Rattle.answers.specs.Checks.{first};
 ghost use Rattle.identity.specs.Text.{identity_text};
-ghost use Rattle.schema.specs.Rows.{federate_at};
-ghost use Rattle.federate.specs.Records.{enclaves_of};
 ghost use Rattle.federate.specs.Federate.{own_checks};
 ghost use Rattle.federate.specs.Answer.{federate_numbers, federate_result, federate_answer};
 

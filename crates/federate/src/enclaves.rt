@@ -14,13 +14,11 @@ use route_pairs::Federate;
 use schema::row::Stored;
 use schema::rows::EnclaveImage;
 
-const KEYS: u64 = 0x1_0000_0000;
-
-// The index shown for an enclave.
+// The index shown for an enclave: the Rust's `as u32`.
 fn index_from(start: u64, place: u32) -> u32
     ensures { result ≡ index_from start place }
 {
-    ((start % KEYS + u64::from(place)) % KEYS) as u32
+    (start as u32).wrapping_add(place)
 }
 
 impl<'a> FederateEnclave<'a> {

@@ -9,13 +9,12 @@ ghost use Rattle.federate.specs.Federate.{span_check, metadata_checks, count_che
 use answers::{Field, IdKind, Refusal, RowField, StableId};
 use checks::identities::validate_id;
 use identity::texts::Texts;
+use schema::index::KEYS;
 use schema::row::Row;
 use schema::rows::FederateImage;
 
 // The number that stands for the table of a federate's span, which document 01 gives: the keys of enclaves.
 const ENCLAVE_KEYS: u8 = 255;
-
-const MAX_ENCLAVES: u64 = 0x1_0000_0000;
 
 // The span of enclaves.
 const SPAN: RowField = RowField {
@@ -29,7 +28,7 @@ fn check_span(federate: FederateImage) -> Result<(), Refusal>
     ensures { result ≡ first (span_check federate ∷ []) }
 {
     let span = federate.enclaves.0;
-    if span.checked_end().is_some_and(|end| end <= MAX_ENCLAVES) {
+    if span.checked_end().is_some_and(|end| end <= KEYS) {
         return Ok(());
     }
     Err(Refusal::RangeOutOfBounds {

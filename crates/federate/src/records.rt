@@ -25,7 +25,8 @@ pub fn next_enclave(pack: Pack, n: usize) -> usize
         .unwrap_or(records.max(n))
 }
 
-// The pack of the enclave of record n, which ends at record `end`: its records up to there.
+// The pack of the enclave of record n, which ends at record `end`: its records up to there. Here and above a record's number is where a part or a search
+// begins, so that a `Record` would be made only to be asked for it.
 #[tactic(auto, using(crate::proofs::Ends::part_laws))]
 pub fn enclave_pack_to<'a>(pack: Pack<'a>, n: usize, end: usize) -> Pack<'a>
     requires inside { n < records_of pack.bytes.now }

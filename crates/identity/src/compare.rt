@@ -21,7 +21,7 @@ fn same_block(left: &[u8], right: &[u8]) -> bool
 }
 
 // The order of two texts, by two places that move on together, each what is left of the part that both are long enough for: by blocks while they are the
-// same, then byte by byte; at the end the shorter text comes first. Not `left.cmp(right)`: that a comparison keeps two running places is asked for.
+// same, then byte by byte; at the end the shorter text comes first. Not `left.cmp(right)`: document 02 asks that a comparison keeps two running places.
 #[tactic(auto, using(crate::proofs::Order::order_laws))]
 pub fn compare_bytes(left: &[u8], right: &[u8]) -> Ordering
     ensures { result ≡ compared left.now right.now }

@@ -59,7 +59,7 @@ impl<'a> Texts<'a> {
         compare_bytes(self.identity_text(left), self.identity_text(right))
     }
 
-    // Their order as -1, 0 or 1: README's demand names this function and its numbers, so it stays beside `compare`.
+    // Their order as -1, 0 or 1: document 01 names this function, and document 02 its numbers, so that it stands beside `compare`.
     pub fn compare_utf8(self, left: IdentityPlace, right: IdentityPlace) -> i8
         ensures { let text = identity_text self.entry.batch.now self.entry.house.now in result ≡ sign (compared (text left) (text right)) }
     {

@@ -41,7 +41,7 @@ fn show_texts<W: Write>(out: &mut W, heading: &str, texts: &[u8]) -> io::Result<
     Ok(())
 }
 
-// A character of at most three bytes: before letters, after them, and between them.
+// A character of at most three bytes: before letters, after them, and between them. Room of the frame: nothing here asks for memory.
 fn show_character<W: Write>(out: &mut W, letters: &[u8], character: &[u8]) -> io::Result<()>
     requires { length letters.now ≤ 21 }
 {
@@ -82,7 +82,7 @@ const LETTER: &[u8] = b"a";
 
 const LETTERS: &[u8] = b"abcdefg\xC3\xA9jklmnopqrstu";
 
-// A digit's number; `*` is the largest number.
+// A digit's number, the low half of its byte; `*` is the largest number. std's `to_digit` has no number for other characters.
 fn number(digit: Option<u8>) -> u32 {
     match digit {
         Some(b'*') => u32::MAX,

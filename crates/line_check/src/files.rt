@@ -79,7 +79,7 @@ pub fn read_file<R: rt::Files>(rt: &R, path: &[u8]) -> Result<File, FileError> {
     Ok(File { room, len })
 }
 
-// A file that is missing decides before one that is too long.
+// A file that is missing decides before one that is too long. Three results, since each file is read on its own.
 pub fn together(
     pack: Result<File, FileError>,
     batch: Result<File, FileError>,

@@ -65,7 +65,7 @@ fn check_triggers<R: Triggering>(e: &Enclave) -> Result<(), Refusal>
     Ok(())
 }
 
-// This and the next: each kind of row by its own definition, as the passes name them.
+// This and the next: each kind of row by its own definition, which each pass of an enclave would else take apart.
 #[tactic(auto, unfolding(crate::specs::ListTables::action_trigger_checks))]
 pub fn check_triggers_of_actions(e: &Enclave) -> Result<(), Refusal>
     ensures { let m = image_of e.now in result ≡ first (run (action_trigger_checks m) 0 (m.rows 3)) }
@@ -124,7 +124,7 @@ fn check_listed_entries<L: Listed>(e: &Enclave, table: u8) -> Result<(), Refusal
     Ok(())
 }
 
-// This and the next: each kind of entry by its own definition.
+// This and the next: each kind of entry by its own definition, for the same reason.
 #[tactic(auto, unfolding(crate::specs::ListTables::level_entry_checks))]
 pub fn check_level_entries<R: Row>(e: &Enclave) -> Result<(), Refusal>
     requires { R.TABLE < tables }
@@ -141,7 +141,7 @@ pub fn check_lifecycle_entries<R: Row>(e: &Enclave) -> Result<(), Refusal>
     check_listed_entries::<LifecycleReactionImage>(e, R::TABLE)
 }
 
-// The shutdown reactions: one list over the whole table.
+// The shutdown reactions: one list over the whole table, entry by entry, as the pass has it; `validate_levels` has a row's range for its definition.
 pub fn check_shutdown_reactions(e: &Enclave) -> Result<(), Refusal>
     ensures { let m = image_of e.now in result ≡ first (run (shutdown_reaction_checks m) 0 (m.rows 21)) }
 {

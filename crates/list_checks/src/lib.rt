@@ -1,4 +1,5 @@
-// The checks of list tables, routes and required bindings, entry by entry in the Rust's order.
+// The checks of list tables, routes and required bindings, entry by entry in the Rust's order. Passes go by `for`, since an entry's place is shown; routes
+// and bindings carry what the row before left, which `try_fold` would answer for the last row, where nobody asks.
 #![tactic(auto)]
 
 pub mod level_lists;

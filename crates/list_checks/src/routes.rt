@@ -17,7 +17,8 @@ use schema::row::Row;
 use schema::rows::{RequiredBindingImage, RouteImage};
 use std::cmp::Ordering;
 
-// What the row after a route is compared with: its boundary's text and its direction.
+// What the row after a route is compared with: its boundary's text and its direction. It goes with the row's index, which a refusal shows and which says
+// whether there is a row before: an `Option` would say that once more. A text goes beside its identity, since it is read once for two rows.
 #[derive(Clone, Copy)]
 struct Before<'a> {
     text: &'a [u8],

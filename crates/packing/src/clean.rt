@@ -6,7 +6,6 @@ ghost use Rattle.packing.specs.Runs.{CleanRun};
 ghost use Rattle.packing.specs.Shape.{layout_of, start_in, bytes_in, shape_of};
 
 use crate::shape::{Governed, Shape};
-use schema::lent::Pack;
 use schema::record::Record;
 use schema::row::Row;
 use schema::rows::{ActionImage, ReactionImage};
@@ -91,16 +90,16 @@ pub fn clean(item: Record, table: u8, shape: Shape) -> bool
 // The first record from n on, before `end`, that is not a clean one of `table`, whose shape it is, or `end`.
 // The two stand side by side: with the shape found for each record, refused-last-record of 256 KiB in ./bench goes from 0.49 of the Rust with packing rules
 // to 0.70, over the bar of 0.6. A struct of the two would be made for this function and `clean` alone.
-pub fn past_clean(pack: Pack, n: usize, end: usize, table: u8, shape: Shape) -> usize
+pub fn past_clean(p: &[u8], n: usize, end: usize, table: u8, shape: Shape) -> usize
     requires from { n ≤ end }
-    requires inside { end ≤ length pack.bytes.now / 64 }
+    requires inside { end ≤ length p.now / 64 }
     requires shaped { shape ≡ shape_of table }
-    ensures { CleanRun pack.entry.bytes.now table n end result }
+    ensures { CleanRun p.now table n end result }
 {
     (n..end)
         .find(|k| {
-            pack.record(*k)
-                .is_none_or(|item| item.table() != table || !clean(item, table, shape))
+            let record = Record::nth(p, *k);
+            record.is_none_or(|item| item.table() != table || !clean(item, table, shape))
         })
         .unwrap_or(end)
 }

@@ -28,7 +28,8 @@ fn row_after(previous: u8, table: u8) -> bool
     EnclaveImage::TABLE < table && usize::from(table) < TABLES && previous <= table
 }
 
-// The kinds of pack are document 01's two, and what differs between them stands here; the checks take the kind beside the bytes.
+// The kinds of pack are document 01's two. In the rules they differ in the order of tables alone, which stands here: a check for each kind, or a type
+// parameter for it, would be two copies of the rest.
 impl PackKind {
     fn first_table(self) -> u8
         ensures { result ≡ first_table self }
@@ -160,7 +161,7 @@ fn check_records(kind: PackKind, pack: Pack, texts: Texts) -> Result<(), Refusal
         let shape = shape_of(table);
         Named { item, texts }.check(kind, shape)?;
         if shape.identities == 0 {
-            walker.place = past_clean(pack, walker.place, pack.records(), table, shape);
+            walker.place = past_clean(pack.bytes, walker.place, pack.records(), table, shape);
         }
     }
     Ok(())

@@ -24,8 +24,9 @@ fn reaches(p: &[u8], t: usize, k: u32) -> bool
     table <= EnclaveImage::TABLE || t <= usize::from(table)
 }
 
-// The first of the records from `from` on that reaches table t; where none does, the number of records, since there the table ends. By a loop: with `(from..end).find(..)` small stations, each of which has all its
-// tables searched for, take an eighth longer in ./bench.
+// The first of the records from `from` on that reaches table t; where none does, the number of records, since there the table ends. By a loop: with
+// `find` small stations, each of which has all its tables searched for, take an eighth longer in ./bench, from 0.98 of the Rust with decoding to over the
+// bar of 1.0.
 #[tactic(auto, using(crate::proofs::TableStarts::search_laws))]
 fn first_reaching(p: &[u8], t: usize, from: u32) -> u32
     ensures { result ≡ first_reaching p.now t from (records_of p.now) }

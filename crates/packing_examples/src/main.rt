@@ -7,7 +7,7 @@ use packing::PackKind;
 use packing::rules::{TEXT_LIMIT, check_packing};
 use packing::shape::shape_of;
 use packing::starts::table_starts;
-use schema::lent::PACK_LIMIT;
+use schema::lent::{PACK_LIMIT, TABLES};
 use std::io;
 use std::io::Write;
 
@@ -20,7 +20,7 @@ const BATCH: &[u8] = b"ab\xC3\xA9";
 // `h`, and a byte that no UTF-8 has.
 const HOUSE: &[u8] = b"h\xFF";
 
-// The answer for a pack over two texts.
+// The answer for a pack of a kind over two texts, which go side by side, as `check_packing` takes them.
 fn write_answer<W: Write>(
     out: &mut W,
     kind: PackKind,
@@ -44,8 +44,8 @@ fn set_byte(record: &mut [u8], item: &str) {
     }
 }
 
-// Room for a record of each table.
-type Room = [u8; 1600];
+// Room for a record of each table: nothing here asks for memory.
+type Room = [u8; TABLES * 64];
 
 // The pack that a text names, at the start of the room: records with slashes between them, bytes with blanks between them.
 fn build<'a>(room: &'a mut Room, text: &str) -> &'a [u8] {
@@ -55,13 +55,13 @@ fn build<'a>(room: &'a mut Room, text: &str) -> &'a [u8] {
             set_byte(record, item);
         }
     }
-    &room[..text.split('/').count().min(25) * 64]
+    &room[..text.split('/').count().min(TABLES) * 64]
 }
 
 // A heading, and each pack of a list that has bars between them.
 fn show_packs<W: Write>(out: &mut W, kind: PackKind, heading: &str, packs: &str) -> io::Result<()> {
     writeln!(out, "{heading}")?;
-    let mut room = [0u8; 1600];
+    let mut room: Room = [0; TABLES * 64];
     for text in packs.split('|') {
         write!(out, "{text}")?;
         write_answer(out, kind, build(&mut room, text), BATCH, HOUSE)?;
@@ -80,7 +80,7 @@ fn show_byte<W: Write>(out: &mut W, table: u8, at: u8, value: u8) -> io::Result<
     let mut pack = [0u8; 128];
     pack[0] = 1;
     pack[start] = table;
-    pack[start + (at % 64) as usize] = value;
+    pack[start + usize::from(at % 64)] = value;
     write!(out, "table {table} byte {at} is {value}")?;
     write_answer(out, kind, &pack[..start + 64], BATCH, HOUSE)
 }
@@ -101,7 +101,7 @@ fn show_table<W: Write>(out: &mut W, table: u8, used: u8) -> io::Result<()> {
 
 fn tables<W: Write>(out: &mut W) -> io::Result<()> {
     writeln!(out, "one byte of a record")?;
-    for table in 0..25 {
+    for table in 0..TABLES as u8 {
         show_table(out, table, shape_of(table).used)?;
     }
     Ok(())
@@ -240,7 +240,7 @@ fn lengths_within<const ROOM: usize>(rt: &HostRuntime) -> io::Result<()>
 
 // Where the tables of the enclave begin whose rows start at record `rows`.
 fn show_starts<W: Write>(out: &mut W, text: &str, rows: u32) -> io::Result<()> {
-    let mut room = [0u8; 1600];
+    let mut room: Room = [0; TABLES * 64];
     write!(out, "{text} from {rows}:")?;
     for start in &table_starts(build(&mut room, text), rows).firsts {
         write!(out, " {start}")?;

@@ -19,7 +19,7 @@ pub struct IndexSpan {
 }
 
 // A span of modes, and one of enclaves: neither stands where the other belongs.
-// Each is one type for one kind of key: a type parameter that names the kind would be no plainer.
+// A type parameter that names the kind of key would have two names for two types: enclaves are no table, so that no table's number tells them apart.
 #[derive(Clone, Copy, Debug, Default, PartialEq, Eq)]
 pub struct ModeSpan(pub IndexSpan);
 

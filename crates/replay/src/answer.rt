@@ -7,6 +7,7 @@ use federate::check::check_federate;
 use packing::PackKind;
 use std::fmt;
 
+// By kind: each check has an answer of its own, and a kind that is none has neither.
 #[derive(Clone, Copy, Debug)]
 pub enum Answer {
     Enclave(Result<u64, Refusal>),

@@ -52,7 +52,7 @@ fn take<'a, R: Read>(input: &mut R, room: &'a mut [u8], len: u32) -> Result<&'a 
     Ok(&room[..kept])
 }
 
-// Room for the parts of a case.
+// Room for the parts of a case, lent: nothing here asks for memory.
 #[derive(Drop)]
 pub struct Room<'a> {
     pub pack: &'a mut [u8],
@@ -60,6 +60,7 @@ pub struct Room<'a> {
     pub house: &'a mut [u8],
 }
 
+// The corpus's number for a kind, which no pack holds: so this stands here, and `PackKind` has no `TryFrom` of it.
 fn kind_of(first: u8) -> Option<PackKind> {
     match first {
         0 => Some(PackKind::Enclave),

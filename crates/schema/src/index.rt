@@ -1,7 +1,10 @@
 // The index types, one for each dense table, and the kinds that stand in a row.
 ghost use Rattle.std.specs.Prelude.{◌≡◌, ◌<◌, ◌^◌};
-ghost use Rattle.schema.specs.Rows.{index_at, transition_of, timing_of, kind_of, direction_of, domain_of};
+ghost use Rattle.schema.specs.Rows.{transition_of, timing_of, kind_of, direction_of, domain_of};
 ghost use Rattle.schema.specs.Records.{direction_number};
+
+// So many keys there are: a key is a number of 32 bits.
+pub const KEYS: u64 = 0x1_0000_0000;
 
 // A key of table T: a key of one table is none of another's.
 #[derive(Clone, Copy, Default, PartialEq, Eq, PartialOrd, Ord)]

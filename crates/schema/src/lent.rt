@@ -29,13 +29,7 @@ impl<'a> Pack<'a> {
     pub fn record(self, n: usize) -> Option<Record<'a>>
         ensures { MatchOption result (length self.entry.bytes.now / 64 ≤ n) (λ r. (r.bytes ≡ self.entry.bytes) × (r.number ≡ n)) }
     {
-        if self.records() <= n {
-            return None;
-        }
-        Some(Record {
-            bytes: self.bytes,
-            number: n,
-        })
+        Record::nth(self.bytes, n)
     }
 
     // Whether record n is of a table; past the pack a record is all zeros.
@@ -77,11 +71,20 @@ pub fn records_of(pack: &[u8]) -> u32
 // How many tables there are, 0 to 24.
 pub const TABLES: usize = 25;
 
-// The record number of each table's first row in one enclave, and of the enclave's end: an array by table number, since the tables are so many.
+// The record number of each table's first row in one enclave, and of the enclave's end: by table number, for which 26 named fields would be no plainer.
 #[derive(Clone, Copy)]
 pub struct TableStarts {
     pub firsts: [u32; TABLES + 1],
     ghost rising: { IsRising firsts },
+}
+
+// The record number of row i of a table, where the tables begin so. A range's start and a place in it are added up to i, so that it is below 2^33.
+pub fn row_number(firsts: &[u32; TABLES + 1], table: u8, i: usize) -> usize
+    requires known { table < tables }
+    requires within { i < 2 ^ 33 }
+    ensures { result ≡ start_of firsts.now table + i }
+{
+    firsts[usize::from(table)] as usize + i
 }
 
 impl TableStarts {
@@ -100,7 +103,7 @@ impl TableStarts {
         requires within { i < 2 ^ 33 }
         ensures { result ≡ start_of self.now.firsts table + i }
     {
-        self.firsts[usize::from(table)] as usize + i
+        row_number(&self.firsts, table, i)
     }
 }
 

@@ -1,5 +1,5 @@
 // One record of lent bytes, and the numbers that stand in it, high byte first: W is 4 bytes, D is 8.
-ghost use Rattle.std.specs.Prelude.{◌≡◌, ◌+◌, ◌*◌, ◌/◌, ◌<◌, ◌≤◌, length};
+ghost use Rattle.std.specs.Prelude.{◌≡◌, ◌+◌, ◌*◌, ◌/◌, ◌<◌, ◌≤◌, length, MatchOption};
 ghost use Rattle.schema.specs.Number.{number};
 ghost use Rattle.schema.specs.Bytes.{IsRecord, byte_of, bit_of};
 
@@ -36,10 +36,29 @@ pub fn long_at(p: &[u8], at: usize) -> u64
     requires { at + 8 ≤ length p.now }
     ensures { result ≡ number 8 p.now at }
 {
-    u64::from(word_at(p, at)) * 0x1_0000_0000 + u64::from(word_at(p, at + 4))
+    u64::from_be_bytes([
+        p[at],
+        p[at + 1],
+        p[at + 2],
+        p[at + 3],
+        p[at + 4],
+        p[at + 5],
+        p[at + 6],
+        p[at + 7],
+    ])
 }
 
 impl<'a> Record<'a> {
+    // Record n of any bytes, where they have it.
+    pub fn nth(bytes: &'a [u8], n: usize) -> Option<Record<'a>>
+        ensures { MatchOption result (length bytes.entry.now / 64 ≤ n) (λ r. (r.bytes ≡ bytes.entry) × (r.number ≡ n)) }
+    {
+        if bytes.len() / 64 <= n {
+            return None;
+        }
+        Some(Record { bytes, number: n })
+    }
+
     // This and the numbers below each ask for room of their own width: a type of places would ask for the same when one is made.
     pub fn byte(self, j: usize) -> u8
         requires { j < 64 }

@@ -57,7 +57,8 @@ pub fn links_by(e: &Enclave, depths: &[u32], scope: ScopeIndex) -> u32
     scopes
 }
 
-// Writes the depth of a scope and those of the scopes above it, up to the first that is known: by a loop that goes from parent to parent.
+// Writes the depth of a scope and those of the scopes above it, up to the first that is known: from parent to parent, and
+// no range or iterator has that order.
 #[tactic(auto, using(crate::proofs::LinksLaws::followed_laws, crate::proofs::DepthLaws::known_set))]
 fn settle(e: &Enclave, depths: &mut [u32], mut scope: ScopeIndex, mut depth: u32)
     requires known { Known (image_of e.now) depths.old }
