@@ -1,4 +1,5 @@
-// The text of an identity: its scalars, whether it is valid, the part of a text that it names, the order by byte.
+// The text of an identity: its scalars, whether it is valid, the part of a text that it names, the order by byte. A start and a length of 32 bits become
+// indices by `as usize`: std has no `From` for that.
 #![tactic(auto)]
 
 pub mod compare;

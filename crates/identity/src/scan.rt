@@ -147,7 +147,8 @@ fn refused(value: u32, edge: bool) -> bool
     unicode_control(value) || (edge && unicode_whitespace(value))
 }
 
-// How many bytes from `at` on are scalars, in an identity such as may stand there unless `ANY` may: by blocks, or one scalar; none where there is no such scalar.
+// How many bytes from `at` on are scalars, in an identity such as may stand there unless `ANY` may: by blocks, or one scalar; none where there is no such
+// scalar.
 #[tactic(auto, using(crate::proofs::Walk::step_laws))]
 fn step<const ANY: bool>(text: &[u8], at: usize) -> Option<usize>
     requires { at < length text.now }

@@ -1,5 +1,5 @@
 // The first route at fault: rows sorted by their boundaries, and one pass over neighbours. A map from boundaries to routes would ask for memory.
-ghost use Rattle.std.specs.Prelude.{◌≡◌, ◌<◌, ◌≤◌, [], length, slice_index, IsPermutation, IsSorted};
+ghost use Rattle.std.specs.Prelude.{◌≡◌, ◌<◌, ◌≤◌, [], length, IsPermutation, IsSorted};
 ghost use Rattle.std.specs.List.{All};
 ghost use Rattle.identity.specs.Order.{compared};
 ghost use Rattle.schema.specs.Records.{records_of};
