@@ -11,6 +11,7 @@ use enclave::check::check_image;
 use identity::texts::Texts;
 use packing::starts::{enclave, table_starts};
 use route_pairs::Federate;
+use schema::index::KEYS;
 use schema::row::Stored;
 use schema::rows::EnclaveImage;
 
@@ -18,7 +19,7 @@ use schema::rows::EnclaveImage;
 fn index_from(start: u64, place: u32) -> u32
     ensures { result ≡ index_from start place }
 {
-    (start as u32).wrapping_add(place)
+    ((start % KEYS) as u32).wrapping_add(place)
 }
 
 impl<'a> FederateEnclave<'a> {
