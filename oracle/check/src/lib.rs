@@ -9,8 +9,8 @@ pub use answer::Answer;
 pub use links::links;
 
 use boomerang_runtime::image::{
-    EnclaveImage, EnclaveImageView, FederateId, FederateImage, FederateImageView, IndexSpan,
-    RuntimeBackendId, TargetId,
+    EnclaveImage, EnclaveImageView, FederateId, FederateImage, FederateImageView, ImageValidationError,
+    IndexSpan, RuntimeBackendId, TargetId,
 };
 use enclave::Enclave;
 use identities::Identities;
@@ -51,16 +51,35 @@ fn after_packing(case: &Case, kind: Kind) -> Answer {
     let enclaves: Vec<Enclave> = stations.iter().map(|rows| Enclave::of(rows, &identities)).collect();
     let images: Vec<EnclaveImage> = enclaves.iter().map(Enclave::image).collect();
     let links = || stations.iter().map(|rows| links(rows)).sum();
+    let refused = |error| {
+        let mut numbers = numbers::of(&error, &identities);
+        if let ImageValidationError::ReferenceOutOfBounds { .. } = error {
+            numbers.push(length(stations[refusing(&images)], numbers[4]));
+        }
+        Answer::Refused(numbers)
+    };
     match kind {
         Kind::Enclave => match EnclaveImageView::new(images[0].clone()) {
             Ok(_) => Answer::Accepted { stations: None, links: links() },
-            Err(error) => Answer::Refused(numbers::of(&error, &identities)),
+            Err(error) => refused(error),
         },
         Kind::Federate => match FederateImageView::new(federate(&rows[0], &identities), &images) {
             Ok(_) => Answer::Accepted { stations: Some(stations.len() as u64), links: links() },
-            Err(error) => Answer::Refused(numbers::of(&error, &identities)),
+            Err(error) => refused(error),
         },
     }
+}
+
+/// The station that a 12 is about: the first that is refused by itself. The Rust's error does not name it.
+fn refusing(images: &[EnclaveImage]) -> usize {
+    let first = images.iter().position(|image| EnclaveImageView::new(image.clone()).is_err());
+    first.expect("12 comes from a station's own check")
+}
+
+/// The rows of a table, the last number of a 12, which the Rust does not give: the records of the station
+/// whose first byte is the table's number.
+fn length(station: &[Row], table: u64) -> u64 {
+    station.iter().filter(|row| u64::from(row.table) == table).count() as u64
 }
 
 fn federate<'a>(row: &Row, identities: &'a Identities) -> FederateImage<'a> {

@@ -1,4 +1,4 @@
-//! boomerang's errors as document 01's numbers.
+//! boomerang's errors as document 01's numbers: of 12 the five that the Rust gives.
 use crate::identities::Identities;
 use boomerang_runtime::image::{ImageValidationError as Error, RouteDirection};
 use pack::layout::TABLES;

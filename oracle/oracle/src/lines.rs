@@ -1,4 +1,5 @@
-//! Document 01's lines tried by hand, and its misreadings, as cases with the paper's answers.
+//! Document 01's lines tried by hand, its misreadings, and lines for document 02's requests, as cases with
+//! the papers' answers.
 use crate::Done;
 use check::answer;
 use pack::corpus::Case;
@@ -91,10 +92,19 @@ impl Draft {
 }
 
 pub fn all() -> Vec<Line> {
-    [slots_and_parents(), spans_and_banks(), identities(), actions(), lines(), lengths(), misreadings()]
-        .into_iter()
-        .flatten()
-        .collect()
+    [
+        slots_and_parents(),
+        spans_and_banks(),
+        identities(),
+        actions(),
+        lines(),
+        lengths(),
+        misreadings(),
+        missing_rows(),
+    ]
+    .into_iter()
+    .flatten()
+    .collect()
 }
 
 fn slots_and_parents() -> Vec<Line> {
@@ -105,7 +115,7 @@ fn slots_and_parents() -> Vec<Line> {
     vec![
         s().station("S", "accepted 0"),
         s().set(ENCLAVE, 0, 2, 0).station("S, state slots 0", "refused 23 2 0 0 0"),
-        without.station("S without its reactor, identity empty", "refused 12 1 0 1 2 0"),
+        without.station("S without its reactor, identity empty", "refused 12 1 0 1 2 0 0"),
         s().bits(SCOPES, 0, 1).station("S, scope 0 its own parent", "refused 18 0"),
         two().station("S and scope 1 under scope 0", "accepted 1"),
         two().bits(SCOPES, 0, 1).set(SCOPES, 0, 0, 1).station("each the other's parent", "refused 18 0"),
@@ -205,9 +215,38 @@ fn misreadings() -> Vec<Line> {
         second.federate("a bad identity of the second station", "refused 19 4 0 0 0 0"),
         smallest()
             .add(Row::new(8, &[0, 0]))
-            .station("an entry that no range covers", "refused 12 8 0 27 5 0"),
+            .station("an entry that no range covers", "refused 12 8 0 27 5 0 0"),
         with_routes(&[0, 1]).station("equal boundaries, inbound first", "accepted 0"),
         with_routes(&[1, 0]).station("equal boundaries, outbound first", "refused 15 23 1"),
+    ]
+}
+
+/// Wish 1: 12 ends in the rows of its target table; in a line these are the faulty station's.
+fn missing_rows() -> Vec<Line> {
+    let root_scope = |draft: Draft, scope| draft.set(REACTORS, 0, 2, scope);
+    let scopes =
+        |draft: Draft, count| (1..count).fold(draft, |draft, _| draft.add(Row::new(SCOPES, &[0; 15])));
+    let two = |first: Draft, second: Draft| {
+        let mut both = first.line(2);
+        both.rows.extend(second.set(ENCLAVE, 0, 0, 1).rows);
+        both
+    };
+    let s = smallest;
+    let mut unbound = s();
+    unbound.rows.retain(|row| row.table != BINDINGS);
+    let mut portless = with_routes(&[0]);
+    portless.rows.retain(|row| row.table != PORTS);
+    vec![
+        root_scope(scopes(s(), 3), 41).station("root scope 41 of three scopes", "refused 12 2 0 3 7 41 3"),
+        root_scope(s(), 1).station("root scope 1 of one scope", "refused 12 2 0 3 7 1 1"),
+        root_scope(scopes(s(), 2), 1).station("root scope 1 of two scopes", "accepted 0"),
+        unbound.station("a state binding where there is none", "refused 12 2 0 2 24 0 0"),
+        two(root_scope(s(), 41), scopes(s(), 3))
+            .federate("the first station's scopes", "refused 12 2 0 3 7 41 1"),
+        two(s(), root_scope(scopes(s(), 3), 41))
+            .federate("the second station's scopes", "refused 12 2 0 3 7 41 3"),
+        two(with_routes(&[0]), portless)
+            .federate("the second station's ports, none", "refused 12 23 0 32 4 0 0"),
     ]
 }
 
@@ -217,7 +256,7 @@ pub fn print() -> Done {
     for line in all() {
         let answer = answer(&line.case).to_string();
         let agrees = answer == line.expected;
-        let remark = if agrees { String::new() } else { format!("  BUT document 01: {}", line.expected) };
+        let remark = if agrees { String::new() } else { format!("  BUT by the papers: {}", line.expected) };
         println!("{:<45} {answer}{remark}", line.name);
         good &= agrees;
     }

@@ -1,11 +1,12 @@
-//! A fixed list: small cases that together meet every site, with their answers.
+//! A fixed list: small cases with their answers, that together meet every site, and 12 with tables of every
+//! length in stations and lines.
 use crate::{for_each, sites, Done};
 use check::answer;
 use std::collections::{BTreeMap, BTreeSet};
 use std::fs::File;
 use std::io::{self, BufWriter, Write};
 
-/// Cases taken of each site, the smallest first.
+/// Cases taken of each site, and of each length and place of 12, the smallest first.
 const OF_EACH: usize = 5;
 /// The largest case taken to meet a site that smaller ones do not meet.
 const LARGEST: usize = 100_000;
@@ -45,10 +46,12 @@ fn choose(corpus: &str, count: usize) -> io::Result<BTreeSet<u64>> {
             small.push(number);
         }
         let site = sites::of(&case, &answer).unwrap_or_else(|| format!("accepted {}", case.kind));
-        let cases = by_site.entry(site).or_default();
-        cases.push((case.size(), number));
-        cases.sort();
-        cases.truncate(OF_EACH);
+        for site in [Some(site), sites::short_table(&case, &answer)].into_iter().flatten() {
+            let cases = by_site.entry(site).or_default();
+            cases.push((case.size(), number));
+            cases.sort();
+            cases.truncate(OF_EACH);
+        }
         Ok(())
     })?;
     let mut chosen = BTreeSet::new();

@@ -18,7 +18,8 @@ pub fn of(case: &Case, answer: &Answer) -> Option<String> {
         return Some(packing_site(&fault));
     }
     let rows = rows(case);
-    let station = refusing_station(case, &rows);
+    let stations = stations(&rows);
+    let station = refusing_station(case, &stations).map(|place| stations[place]);
     Some(view_site(case, numbers, station.unwrap_or(&[]), station.is_some()))
 }
 
@@ -31,9 +32,31 @@ fn packing_site(fault: &packing::Fault) -> String {
     }
 }
 
-/// The rows of the first station that is refused by itself.
-fn refusing_station<'r>(case: &Case, rows: &'r [Row]) -> Option<&'r [Row]> {
-    stations(rows).into_iter().find(|station| {
+/// Of a 12: how long its target table is, and where the station stands; none for other answers.
+pub fn short_table(case: &Case, answer: &Answer) -> Option<String> {
+    let Answer::Refused(numbers) = answer else {
+        return None;
+    };
+    let [12, _, _, _, _, _, length] = numbers[..] else {
+        return None;
+    };
+    let length = match length {
+        0 => "no row",
+        1 => "one row",
+        2..=255 => "2 to 255 rows",
+        _ => "256 rows and more",
+    };
+    let place = match refusing_station(case, &stations(&rows(case))) {
+        _ if case.kind == 0 => "a station",
+        Some(0) => "the first station of a line",
+        _ => "a later station of a line",
+    };
+    Some(format!("{length}, {place}"))
+}
+
+/// The place of the first station that is refused by itself.
+fn refusing_station(case: &Case, stations: &[&[Row]]) -> Option<usize> {
+    stations.iter().position(|station| {
         let alone = Case { kind: 0, pack: pack::row::pack(station), ..case.clone() };
         matches!(answer(&alone), Answer::Refused(_))
     })

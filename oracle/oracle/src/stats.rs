@@ -9,12 +9,17 @@ type Counts = BTreeMap<String, u64>;
 pub fn print(corpus: &str) -> Done {
     let mut answers = Counts::new();
     let mut signatures = Counts::new();
+    let mut missing = Counts::new();
     let mut met = Counts::new();
     let cut = for_each(corpus, |_, case| {
         let answer = answer(&case);
         count(&mut answers, group(&answer, case.kind));
         if let Answer::Refused(numbers) = &answer {
             count(&mut signatures, signature(numbers));
+        }
+        if let (Some(table), Answer::Refused(numbers)) = (sites::short_table(&case, &answer), &answer) {
+            count(&mut missing, table);
+            count(&mut missing, how_far(numbers).into());
         }
         if let Some(site) = sites::of(&case, &answer) {
             count(&mut met, site);
@@ -25,7 +30,9 @@ pub fn print(corpus: &str) -> Done {
     table(&answers);
     println!("\nrefusal, table and field");
     table(&signatures);
-    Ok(site_table(&met))
+    println!("\n12 by its target table and its station, and by the row that it misses");
+    table(&missing);
+    Ok(site_table(&met) && !missing.contains_key(THERE))
 }
 
 fn count(counts: &mut Counts, name: String) {
@@ -60,6 +67,19 @@ fn signature(numbers: &[u64]) -> String {
         }
     }
     words.join(" ")
+}
+
+/// No 12 may say so.
+const THERE: &str = "to A ROW THAT IS THERE";
+
+/// How far the row that a 12 misses is past the last one.
+fn how_far(numbers: &[u64]) -> &'static str {
+    match numbers[5].checked_sub(numbers[6]) {
+        None => THERE,
+        Some(0) => "to the row after the last",
+        Some(1) => "to the one after that",
+        Some(_) => "to a row further on",
+    }
 }
 
 /// Every site with its count; false where one is met that the list does not have.

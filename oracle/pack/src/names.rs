@@ -1,4 +1,4 @@
-//! Document 01's names for fields, identity kinds and refusals.
+//! The names of documents 01 and 02 for fields, identity kinds and refusals.
 use crate::layout::TABLES;
 
 /// Document 01's field numbers, from 1.
@@ -83,7 +83,7 @@ pub const REFUSALS: [Refusal; 23] = [
     refusal(5, "identity outside its text", &[RECORD]),
     refusal(6, "identity not UTF-8", &[RECORD]),
     refusal(11, "TableTooLarge", &[TABLE]),
-    refusal(12, "ReferenceOutOfBounds", &[TABLE, INDEX, Field, TARGET, Plain("referenced")]),
+    refusal(12, "ReferenceOutOfBounds", &[TABLE, INDEX, Field, TARGET, Plain("referenced"), Plain("rows")]),
     refusal(13, "RangeOutOfBounds", &[TABLE, INDEX, Field, TARGET, START, LENGTH]),
     refusal(14, "RangesNotMonotonic", &[TABLE, INDEX, Field, START, Plain("previous end")]),
     refusal(15, "EntriesNotSorted", &[TABLE, INDEX]),
