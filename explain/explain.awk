@@ -45,6 +45,12 @@ function counted(n, thing) {
   return n " " thing (n == 1 ? "" : "s")
 }
 
+# So many, after `there`.
+function are(n) {
+  if (n == 0) return "is none"
+  return (n == 1 ? "is " : "are ") n
+}
+
 # Whether so many numbers follow the refusal's.
 function has(count) {
   return NF == count + 2
@@ -91,7 +97,7 @@ function of_packing(n, record) {
 
 function of_references(n) {
   if (n == 11 && has(1)) return name("table", $3) " has more rows than row numbers of 32 bits can count."
-  if (n == 12 && has(5)) return field() " names " name("table", $6) "[" $7 "], which does not exist."
+  if (n == 12 && has(6)) return field() " names missing " name("table", $6) "[" $7 "]: there " are($8) "."
   if (n == 13 && has(6)) return field() " is the range " $7 "+" $8 " (start+length), which reaches past the end of " whole(name("table", $6)) "."
   if (n == 14 && has(5)) return field() " starts at " $6 ", before " $7 ", where the row before it ends."
   return ""
