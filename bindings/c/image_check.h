@@ -15,7 +15,7 @@ extern "C" {
 
 /* Checks the image of one station (an enclave) or of a whole line (a federate): a pack, its batch text and its house text.
  *
- * The result says how many of `numbers` hold the answer, from 1 to 7; the others of the eight are set to 0.
+ * The result says how many of `numbers` hold the answer, from 1 to 7 (7 for refusals 12 and 13); the others of the eight are set to 0.
  *   numbers[0] is 0: accepted. Then follow, for an enclave, the links (result 2); for a federate, the stations and the links (result 3).
  *   numbers[0] is not 0: refused. It is the refusal's number, and the numbers that it carries follow. docs/REFUSALS.md lists them.
  * The program `replay` prints these numbers: `accepted` and those after the 0, or `refused` and all of them.

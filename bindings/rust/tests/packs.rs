@@ -22,6 +22,13 @@ fn station(state_slots: u32, scopes: u32) -> Vec<u8> {
     pack
 }
 
+/// The same with this root scope in its reactor.
+fn rooted(scope: u32, scopes: u32) -> Vec<u8> {
+    let mut pack = station(1, scopes);
+    pack[64..128].copy_from_slice(&record(2, [0, 0], &[0, 0, scope]));
+    pack
+}
+
 /// The record of a line of so many stations, whose batch text has `f` at 2.
 fn federate(stations: u32) -> Vec<u8> {
     record(0, [0, 0], &[2, 1, 2, 1, 2, 1, 0, 0, 0, stations])
@@ -67,6 +74,20 @@ fn no_state_slots() {
     let Answer::Refused(refusal) = answer else { panic!("{answer}") };
     assert_eq!((refusal.number(), refusal.numbers()), (23, &[23, 2, 0, 0, 0][..]));
     assert_eq!(answer.to_string(), "refused 23 2 0 0 0");
+}
+
+#[test]
+fn missing_rows() {
+    let whole = station(1, 1);
+    let answer = check_enclave(&[&whole[..64], &whole[128..]].concat(), b"ab", b"");
+    let Answer::Refused(refusal) = answer else { panic!("{answer}") };
+    assert_eq!((refusal.number(), refusal.numbers()), (12, &[12, 1, 0, 1, 2, 0, 0][..]));
+    for scopes in [1, 3, 256, 65533] {
+        let answer = check_enclave(&rooted(scopes, scopes), b"ab", b"");
+        assert_eq!(answer.to_string(), format!("refused 12 2 0 3 7 {scopes} {scopes}"));
+    }
+    let line = [federate(2), station(1, 3), rooted(41, 2)].concat();
+    assert_eq!(check_federate(&line, b"abf", b"").to_string(), "refused 12 2 0 3 7 41 2");
 }
 
 #[test]
