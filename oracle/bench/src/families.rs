@@ -15,7 +15,7 @@ pub struct Family {
 const SIZES: &[usize] = &[35, 256, 1024, 4096, 16_384, 65_536];
 const FROM_FOUR: &[usize] = &[4, 16, 256, 4096, 16_384, 65_536];
 
-pub const FAMILIES: [Family; 15] = [
+pub const FAMILIES: [Family; 16] = [
     family("smallest", "a line without stations, the smallest station, that in a line", &[1, 4, 5], smallest),
     family(
         "wide",
@@ -45,6 +45,7 @@ pub const FAMILIES: [Family; 15] = [
     family("refused-first-record", "packing, at once", SIZES, refused::first_record),
     family("refused-first-row", "reactor 0, after packing", SIZES, refused::first_row),
     family("refused-last-record", "packing, at the last record", SIZES, refused::last_record),
+    family("refused-missing-row", "the last route's port", SIZES, refused::missing_row),
     family("refused-last-row", "the last binding", SIZES, refused::last_row),
 ];
 

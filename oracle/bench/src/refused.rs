@@ -2,6 +2,7 @@
 use crate::sample::Sample;
 use crate::wide;
 use check::Answer;
+use pack::layout::{BINDINGS, PORTS, ROUTES};
 use pack::RECORD;
 
 /// Sets the W at this byte of a record.
@@ -12,6 +13,11 @@ fn set(sample: &mut Sample, record: usize, at: usize, value: u32) {
 
 fn last(sample: &Sample) -> usize {
     sample.case.pack.len() / RECORD - 1
+}
+
+/// The rows of a table.
+fn rows(sample: &Sample, table: u8) -> usize {
+    sample.case.pack.chunks(RECORD).filter(|record| record[0] == table).count()
 }
 
 /// The station's identity is outside its text.
@@ -42,6 +48,16 @@ pub fn last_record(records: usize) -> Sample {
     sample
 }
 
+/// The last route's port is the one after the last.
+pub fn missing_row(records: usize) -> Sample {
+    let mut sample = wide::units(records);
+    let [routes, ports, bindings] = [ROUTES, PORTS, BINDINGS].map(|table| rows(&sample, table));
+    set(&mut sample, records - 1 - bindings, 12, ports as u32);
+    let [index, ports] = [routes - 1, ports].map(|number| number as u64);
+    sample.expected = Answer::Refused(vec![12, ROUTES.into(), index, 32, PORTS.into(), ports, ports]);
+    sample
+}
+
 /// The last binding has the identity of the one before.
 pub fn last_row(records: usize) -> Sample {
     let mut sample = wide::units(records);
@@ -49,8 +65,7 @@ pub fn last_row(records: usize) -> Sample {
     let id = record * RECORD + 4;
     let before: Vec<u8> = sample.case.pack[id - RECORD..id - RECORD + 8].to_vec();
     sample.case.pack[id..id + 8].copy_from_slice(&before);
-    let bindings = sample.case.pack.chunks(RECORD).filter(|record| record[0] == pack::layout::BINDINGS);
-    let index = bindings.count() as u64 - 1;
+    let index = rows(&sample, BINDINGS) as u64 - 1;
     let start = u32::from_be_bytes([before[0], before[1], before[2], before[3]]);
     sample.expected = Answer::Refused(vec![21, 6, index, 0, start.into(), 4]);
     sample
