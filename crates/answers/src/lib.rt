@@ -43,6 +43,7 @@ pub enum Refusal {
         at: RowField,
         target: u8,
         referenced: u32,
+        rows: u32,
     },
     RangeOutOfBounds {
         at: RowField,
@@ -159,9 +160,11 @@ impl Refusal {
                 at,
                 target,
                 referenced,
+                rows,
             } => {
                 let [t, i, f] = at.numbers();
-                listed(&[12, t, i, f, u64::from(target), u64::from(referenced)])
+                let (target, referenced) = (u64::from(target), u64::from(referenced));
+                listed(&[12, t, i, f, target, referenced, u64::from(rows)])
             }
             Refusal::RangeOutOfBounds {
                 at,

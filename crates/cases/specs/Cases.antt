@@ -71,8 +71,8 @@ cases =
     plain (enclave_s ++ (reactor_s ++ (scope_s ++ binding_s))) (0 ∷ 0 ∷ [])
     -- S, state slots 0: 23 table 2, index 0, slot 0, bound 0
     ∷ plain (enclave 0 1 0 0 ++ (reactor_s ++ (scope_s ++ binding_s))) (23 ∷ 2 ∷ 0 ∷ 0 ∷ 0 ∷ [])
-    -- S without its reactor, identity empty as well: 12 table 1, 0, 1, 2, 0
-    ∷ plain (enclave 0 0 1 0 ++ (scope_s ++ binding_s)) (12 ∷ 1 ∷ 0 ∷ 1 ∷ 2 ∷ 0 ∷ [])
+    -- S without its reactor, identity empty as well: 12 table 1, 0, 1, 2, 0, 0
+    ∷ plain (enclave 0 0 1 0 ++ (scope_s ++ binding_s)) (12 ∷ 1 ∷ 0 ∷ 1 ∷ 2 ∷ 0 ∷ 0 ∷ [])
     -- S, scope 0 its own parent: 18 scope 0
     ∷ plain (enclave_s ++ (reactor_s ++ (scope_under 0 ++ binding_s))) (18 ∷ 0 ∷ [])
     -- S and scope 1 under scope 0: accepted, links 1

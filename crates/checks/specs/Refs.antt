@@ -16,13 +16,17 @@ use Rattle.checks.specs.declared.refs.Found.{Found}
 abbrev pub length_check : (ℕ → ℕ) → ℕ → Check
 length_check rows t = need (leb (rows t) (2 ^ 32)) (TableTooLarge t)
 
+-- table g has no row v, to which a field refers: the refusal tells how many rows that table has
+abbrev pub missing : (ℕ → ℕ) → RowField → ℕ → ℕ → Refusal
+missing rows at g v = ReferenceOutOfBounds at g v (rows g)
+
 -- row i of table t refers, in the field f, to row v of table g
 abbrev pub ref_to : (ℕ → ℕ) → ℕ → ℕ → Field → ℕ → ℕ → Check
-ref_to rows t i f g v = need (ltb v (rows g)) (ReferenceOutOfBounds (row_field t i f) g v)
+ref_to rows t i f g v = need (ltb v (rows g)) (missing rows (row_field t i f) g v)
 
 -- what a lookup of that reference answers, where the tables begin at s: the key with the record number of its row, or the refusal
 abbrev pub looked_up : {K : Type 0} → List ℕ → RowField → ℕ → K → ℕ → Result (Found K) Refusal
-looked_up s at g key v = cond (ltb v (rows_of s g)) (Ok (record { key = key; record_number = start_of s g + v })) (Err (ReferenceOutOfBounds at g v))
+looked_up s at g key v = cond (ltb v (rows_of s g)) (Ok (record { key = key; record_number = start_of s g + v })) (Err (missing (rows_of s) at g v))
 
 abbrev pub end_within : Option ℕ → ℕ → Bool
 end_within (Some e) n = leb e n

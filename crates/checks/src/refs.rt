@@ -43,11 +43,13 @@ pub fn check_ref<K: Key>(starts: &TableStarts, at: RowField, key: K) -> Result<F
     ensures { result ≡ looked_up starts.now.firsts at K.Row.TABLE key (K.number key) }
 {
     let (target, referenced) = (K::Row::TABLE, key.number());
-    if starts.rows(target) <= referenced {
+    let rows = starts.rows(target);
+    if rows <= referenced {
         return Err(Refusal::ReferenceOutOfBounds {
             at,
             target,
             referenced,
+            rows,
         });
     }
     Ok(Found {
