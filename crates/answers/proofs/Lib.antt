@@ -4,3 +4,4 @@ pub mod Looser
 pub mod Slots
 pub mod RefusalNumbers
 pub mod Tests
+pub mod Each

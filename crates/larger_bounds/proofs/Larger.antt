@@ -13,7 +13,7 @@ use Rattle.row_checks.specs.Reactors.{reactor_checks}
 use Rattle.row_checks.specs.Actions.{action_checks}
 use Rattle.enclave.specs.Passes.{Pass, passes, pass_checks, checks_of, enclave_checks}
 use Rattle.larger_bounds.specs.Images.{with_bounds, LargerBounds, SameLinks}
-use Rattle.larger_bounds.proofs.Opened.{the_passes, the_rows, the_lists, the_parts}
+use Rattle.enclave.proofs.Opened.{the_passes, the_rows, the_lists, the_parts}
 
 larger : (k : ℕ) {a b : ℕ} → a ≤ b → ltb k a ≡ true → ltb k b ≡ true
 larger k {a} {b} h e = lt-ltb k b (omega (arith, ltb-true k a e))

@@ -1,4 +1,3 @@
-pub mod Opened
 pub mod Larger
 pub mod SlotTests
 pub mod Exactly

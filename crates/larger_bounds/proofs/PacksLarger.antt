@@ -14,7 +14,7 @@ use Rattle.enclave.specs.Passes.{pass_checks, checks_of, enclave_checks}
 use Rattle.enclave.specs.Answer.{image_answer, pack_image, enclave_answer}
 use Rattle.larger_bounds.specs.Images.{with_bounds}
 use Rattle.larger_bounds.specs.Packs.{Packed, state_bound, action_bound, DifferInStorage, SlotAnswer, EnclaveAnswerStays}
-use Rattle.larger_bounds.proofs.Opened.{the_passes, the_rows, the_lists}
+use Rattle.enclave.proofs.Opened.{the_passes, the_rows, the_lists}
 use Rattle.larger_bounds.proofs.Larger.{enclave-looser}
 use Rattle.larger_bounds.proofs.Packed.{one-enclave, has-enclave}
 use Rattle.larger_bounds.proofs.SamePacks.{in_tables, starts-same, image-same}
