@@ -1,3 +1,4 @@
 pub mod Whole
 pub mod Opened
 pub mod EachPass
+pub mod Missing

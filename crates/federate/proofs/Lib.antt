@@ -2,3 +2,4 @@ pub mod Ends
 pub mod Gaps
 pub mod EnclaveLaws
 pub mod Whole
+pub mod Missing

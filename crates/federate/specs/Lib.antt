@@ -3,3 +3,4 @@ pub mod Walk
 pub mod Enclaves
 pub mod Federate
 pub mod Answer
+pub mod Missing
