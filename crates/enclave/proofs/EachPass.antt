@@ -14,9 +14,9 @@ use Rattle.answers.specs.Numbers.{numbers}
 use Rattle.answers.specs.Checks.{Check, need}
 use Rattle.answers.specs.Slots.{is_slot}
 use Rattle.answers.proofs.Each.{Each, none, more, each-append, each-run, each-cond}
-use Rattle.schema.specs.declared.index.ModeIndex.{ModeIndex}
-use Rattle.schema.specs.declared.index.ScopeIndex.{ScopeIndex}
-use Rattle.schema.specs.declared.index.BindingSlotIndex.{BindingSlotIndex}
+use Rattle.schema.specs.Indexes.{ModeIndex}
+use Rattle.schema.specs.Indexes.{ScopeIndex}
+use Rattle.schema.specs.Indexes.{BindingSlotIndex}
 use Rattle.schema.specs.declared.index.BankInfoImage.{BankInfoImage}
 use Rattle.range.specs.declared.IndexSpan.{IndexSpan}
 use Rattle.checks.specs.Image.{Image}
