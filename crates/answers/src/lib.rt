@@ -16,8 +16,8 @@ use schema::index::RouteDirection;
 use std::error::Error;
 use std::fmt;
 
-// One variant for each refusal of document 01, named as the Rust names it; 1 to 6 are the packing rules'. Which text is too long is shown by the bit that
-// tells an identity's text, 0 for the batch and 1 for the house.
+// One variant for each refusal of document 01, named as the Rust names it, with its values one by one as the Rust has them; 1 to 6 are the packing rules'.
+// Which text is too long is shown by the bit that tells an identity's text, 0 for the batch and 1 for the house.
 #[derive(Clone, Copy, Debug)]
 pub enum Refusal {
     Length,
@@ -144,7 +144,7 @@ fn with_boundary(number: u64, boundary: IdentityPlace, value: u8) -> Numbers
 }
 
 impl Refusal {
-    // Document 01's number and the values after it.
+    // Document 01's number and the values after it: a list, and no conversion to one value.
     pub fn numbers(self) -> Numbers
         ensures { result.items ≡ numbers self }
     {

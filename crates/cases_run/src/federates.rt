@@ -53,6 +53,7 @@ fn with_routes(rt: &HostRuntime, name: &[u8], stations: &[&[RecordBytes]]) -> Re
     show_federate(rt, name, line, stations, b"abcddf")
 }
 
+// One half, and two, in a line; `enclaves` has the same in a station, over its own text.
 fn lone_half(rt: &HostRuntime, name: &[u8], direction: RouteDirection) -> Result<()> {
     let half = one_half(rows::enclave_s(), rows::route(3, direction));
     with_routes(rt, name, &[&half])

@@ -1,4 +1,5 @@
-// Identities: valid, and above the identity before.
+// Identities: valid, and above the identity before. Each check in two forms: routes and bindings read a text once for two rows and lend it, elsewhere a place
+// is at hand.
 ghost use Rattle.std.specs.Prelude.{◌≡◌, [], ◌∷◌};
 ghost use Rattle.answers.specs.Checks.{first};
 ghost use Rattle.identity.specs.Text.{identity_text};

@@ -1,4 +1,5 @@
-// Lists of reactions by level, whatever else their entries hold: levels alone, or lifecycle reactions.
+// Lists of reactions by level, whatever else their entries hold: levels alone, or lifecycle reactions. A table stands as a number beside the type of what its
+// entries hold, as in the definitions: entries of one type are in several tables, and a row type would say both, to be taken apart again in each.
 ghost use Rattle.std.specs.Prelude.{ℕ, ◌≡◌, [], ◌∷◌, ◌+◌, ◌-◌, ◌<◌, List};
 ghost use Rattle.answers.specs.Checks.{Check, first};
 ghost use Rattle.schema.specs.Tables.{start_of, rows_of, tables};

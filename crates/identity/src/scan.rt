@@ -90,7 +90,8 @@ impl<'a> Inner<'a> {
         ensures { Run (fits_at ANY self.entry.text.now) self.entry.at result (length self.entry.text.now - 1) }
     {
         let rest = self.text.len() - self.at;
-        // A block at a time, while all of it fits: by an index, since each place looks back three bytes, so that parts of 16 would not do.
+        // A block at a time, while all of it fits: by an index, since each place looks back three bytes, so that parts of 16 would not do; `find` over every
+        // sixteenth place would need one more test for what is left after the last.
         let mut k = 0;
         while k + 16 < rest && self.fits_block::<ANY>(k) {
             k += 16;
@@ -107,7 +108,8 @@ impl<'a> Inner<'a> {
         !due(text[at - 1], text[at - 2], text[at - 3])
     }
 
-    // How many of the next k bytes are whole scalars: the beginning of one at the end is left off, a byte at a time, since each place looks back three bytes.
+    // How many of the next k bytes are whole scalars: the beginning of one at the end is left off, a byte at a time, three at most. `find` over the places back
+    // from the end would have an answer for none, which there is not.
     #[tactic(auto, using(crate::proofs::Steps::not_there))]
     fn whole_scalars(self, k: usize) -> usize
         requires inside { self.at + k ≤ length self.text.now }
@@ -182,7 +184,8 @@ fn walk<const ANY: bool>(text: &[u8]) -> bool
     ANY | (at != 0)
 }
 
-// Whether a text is UTF-8.
+// Whether a text is UTF-8. This and `valid_id` are two functions over one walk: each first tries what most of its texts are, ASCII of any kind here, ASCII
+// without controls and edge blanks there.
 #[tactic(auto, using(crate::proofs::Utf8::utf8_ascii))]
 pub fn is_utf8(text: &[u8]) -> bool
     ensures { result ≡ utf8 text.now }

@@ -21,7 +21,7 @@ use schema::lent::Enclave;
 use schema::row::{Row, Stored};
 use schema::rows::{ActionImage, PortImage, ScopeImage};
 
-// A row that triggers reactions.
+// A row that triggers reactions. One block for each kind: no macro may write them.
 pub trait Triggering: Row {
     ghost triggers: { Self → SliceRange };
 

@@ -190,7 +190,7 @@ pub fn checked_pack<'a>(kind: PackKind, bytes: &'a [u8], texts: Texts) -> Result
     Ok(pack)
 }
 
-// The packing rules of a pack over its two texts. It takes the three lent texts as a caller has them; `Texts` is made of two here.
+// The packing rules of a pack over its two texts, without the pack for an answer. It takes the three as a host lends them.
 pub fn check_packing(kind: PackKind, pack: &[u8], batch: &[u8], house: &[u8]) -> Result<(), Refusal>
     ensures { result ≡ first (packing_checks kind pack.now batch.now house.now) }
 {

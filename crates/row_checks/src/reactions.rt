@@ -15,7 +15,8 @@ use schema::lent::Enclave;
 use schema::row::Row;
 use schema::rows::ReactionImage;
 
-// The ends of a reaction's four ranges; before the first row each is 0.
+// The ends of a reaction's four ranges; before the first row each is 0. Scopes have six others, in a type of their own: one type for both would need a number
+// for each range, where a name stands now.
 #[derive(Clone, Copy, Default)]
 pub struct ReactionEnds {
     pub uses: u64,

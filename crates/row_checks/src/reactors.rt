@@ -15,7 +15,7 @@ use schema::lent::Enclave;
 use schema::row::{Row, Stored};
 use schema::rows::{EnclaveImage, ModeImage, ReactorImage};
 
-// A slot is below its bound.
+// A slot is below its bound. By the table's number, since it holds of any table; its two callers have the key whose number they show.
 pub fn check_slot(table: u8, bound: u32, index: u32, slot: u32) -> Result<(), Refusal>
     ensures { result ≡ first (slot_checks table bound index slot) }
 {

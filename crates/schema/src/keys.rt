@@ -19,7 +19,7 @@ use crate::rows::{
     ScopeImage,
 };
 
-// The row type of a key's table.
+// The row type of a key's table. One block for each key below: no macro may write them, and each names its row.
 pub trait Keyed {
     type Row: Row;
 

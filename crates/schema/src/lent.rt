@@ -78,7 +78,7 @@ pub struct TableStarts {
     ghost rising: { IsRising firsts },
 }
 
-// The record number of row i of a table, where the tables begin so. A range's start and a place in it are added up to i, so that it is below 2^33.
+// The record number of row i of a table, where the tables begin so. Beside `TableStarts::record`, since it holds of starts that need not rise. A range's start and a place in it are added up to i, so that it is below 2^33.
 pub fn row_number(firsts: &[u32; TABLES + 1], table: u8, i: usize) -> usize
     requires known { table < tables }
     requires within { i < 2 ^ 33 }

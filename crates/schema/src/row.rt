@@ -71,7 +71,7 @@ impl<'a> Enclave<'a> {
         self.starts.rows(table)
     }
 
-    // The record of row i of a table: before the enclave's end and a record of the pack, where the table has the row.
+    // The record of row i of a table, for the rows that `row_number` is for: before the enclave's end and a record of the pack, where the table has the row.
     pub fn record(&self, table: u8, i: usize) -> usize
         requires known { table < tables }
         requires within { i < 2 ^ 33 }

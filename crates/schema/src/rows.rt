@@ -212,7 +212,7 @@ impl Stored for ActionImage {
 
     ghost past = { action_past };
 
-    // By hand: the first kind of timing has a delay, so that `ActionTiming` derives no `Default`.
+    // By hand: the first kind of timing has a delay, so that `ActionTiming` derives no `Default`, and an impl of that would be as long as this.
     fn empty() -> Self {
         ActionImage {
             scope: ScopeIndex::new(0),

@@ -19,7 +19,8 @@ use schema::index::ScopeIndex;
 use schema::lent::{Enclave, TableStarts};
 use schema::rows::ScopeImage;
 
-// One running end for each range of a row; before the first row each is 0. A reaction's are `ReactionEnds`: the fields have the ranges' names.
+// One running end for each range of a row; before the first row each is 0. Reactions have four others (`ReactionEnds`): one type for both would need a number
+// for each range, where a name stands now.
 #[derive(Clone, Copy, Default)]
 pub struct ScopeEnds {
     pub descendants: u64,
