@@ -138,8 +138,8 @@ module _ {l r a b : List ℕ} (t : Rests l r a b) where
   pub rests_step : 0 < length a → get_or b 0 0 ≤ get_or a 0 0 → get_or a 0 0 ≤ get_or b 0 0 → Rests l r (take (length a - 1) (drop 1 a)) (take (length b - 1) (drop 1 b))
   rests_step h e f = rests_on 1 h (λ i m. let z : i ≡ 0 = omega arith in rw z (omega arith))
 
-  pub rests_block : (same : Bool) → same ≡ every (same_at a b) 0 16 → same ≡ true → 16 ≤ length a → Rests l r (take (length a - 16) (drop 16 a)) (take (length b - 16) (drop 16 b))
-  rests_block same e f h = rests_on 16 h (λ i m. eqb-true _ _ (every-at (same_at a b) 0 16 i (sym e ∙ f) (omega arith) (omega arith)))
+  pub rests_block : (same : Bool) → same ≡ every (same_at a b) 0 32 → same ≡ true → 32 ≤ length a → Rests l r (take (length a - 32) (drop 32 a)) (take (length b - 32) (drop 32 b))
+  rests_block same e f h = rests_on 32 h (λ i m. eqb-true _ _ (every-at (same_at a b) 0 32 i (sym e ∙ f) (omega arith) (omega arith)))
 
 pub ruleset order_laws = (rests_start, rests_block, rests_over, rests_below, rests_above, rests_step)
 

@@ -5,16 +5,16 @@ ghost use Rattle.identity.specs.Scan.{every, same_at};
 
 use std::cmp::Ordering;
 
-// Whether the first 16 bytes of both are the same: no branch among them, so that they are compared at once.
+// Whether the first 32 bytes of both are the same: no branch among them, so that they are compared at once.
 // A `for`, since `==` of two slices is a call, which is not inlined, for each block.
 #[tactic(auto, using(crate::proofs::Steps::block_laws))]
 fn same_block(left: &[u8], right: &[u8]) -> bool
-    requires left_inside { 16 ≤ length left.now }
-    requires right_inside { 16 ≤ length right.now }
-    ensures { result ≡ every (same_at left.now right.now) 0 16 }
+    requires left_inside { 32 ≤ length left.now }
+    requires right_inside { 32 ≤ length right.now }
+    ensures { result ≡ every (same_at left.now right.now) 0 32 }
 {
     let mut same = true;
-    for k in 0..16 {
+    for k in 0..32 {
         same &= left[k] == right[k];
     }
     same
@@ -29,9 +29,9 @@ pub fn compare_bytes(left: &[u8], right: &[u8]) -> Ordering
     let common = left.len().min(right.len());
     let mut a = &left[..common];
     let mut b = &right[..common];
-    while 16 <= a.len() && same_block(a, b) {
-        a = &a[16..];
-        b = &b[16..];
+    while 32 <= a.len() && same_block(a, b) {
+        a = &a[32..];
+        b = &b[32..];
     }
     while 0 < a.len() {
         if a[0] < b[0] {
