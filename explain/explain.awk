@@ -96,7 +96,6 @@ function of_packing(n, record) {
 }
 
 function of_references(n) {
-  if (n == 11 && has(1)) return name("table", $3) " has more rows than row numbers of 32 bits can count."
   if (n == 12 && has(6)) return field() " names missing " name("table", $6) "[" $7 "]: there " are($8) "."
   if (n == 13 && has(6)) return field() " is the range " $7 "+" $8 " (start+length), which reaches past the end of " whole(name("table", $6)) "."
   if (n == 14 && has(5)) return field() " starts at " $6 ", before " $7 ", where the row before it ends."

@@ -4,7 +4,7 @@ use mathlib.Core.List.{List}
 use native.Mathlib.Omega.{arith}
 use lib.ListN.{length, get_or}
 use Rattle.answers.specs.declared.Refusal.{Refusal}
-use Rattle.answers.specs.declared.Refusal.TheVariants.{Length, TextTooLong, TableOutOfPlace, StrayByte, IdentityOutside, NotUtf8, TableTooLarge, ReferenceOutOfBounds, RangeOutOfBounds, RangesNotMonotonic, EntriesNotSorted, DuplicateEntry, OwnershipMismatch, ScopeParentCycle, InvalidStableId, StableIdsNotSorted, DuplicateStableId, InvalidBankInfo, StorageBoundExceeded, BindingKindMismatch, BindingPresenceMismatch, DuplicateRouteHalf, RoutePairMismatch}
+use Rattle.answers.specs.declared.Refusal.TheVariants.{Length, TextTooLong, TableOutOfPlace, StrayByte, IdentityOutside, NotUtf8, ReferenceOutOfBounds, RangeOutOfBounds, RangesNotMonotonic, EntriesNotSorted, DuplicateEntry, OwnershipMismatch, ScopeParentCycle, InvalidStableId, StableIdsNotSorted, DuplicateStableId, InvalidBankInfo, StorageBoundExceeded, BindingKindMismatch, BindingPresenceMismatch, DuplicateRouteHalf, RoutePairMismatch}
 use Rattle.answers.specs.Numbers.{numbers}
 
 abbrev Shaped : List ℕ → Type 0
@@ -18,7 +18,6 @@ shaped (TableOutOfPlace number) = (omega arith, omega arith)
 shaped (StrayByte number) = (omega arith, omega arith)
 shaped (IdentityOutside number) = (omega arith, omega arith)
 shaped (NotUtf8 number) = (omega arith, omega arith)
-shaped (TableTooLarge table) = (omega arith, omega arith)
 shaped (ReferenceOutOfBounds at target referenced rows) = (omega arith, omega arith)
 shaped (RangeOutOfBounds at target start len) = (omega arith, omega arith)
 shaped (RangesNotMonotonic at start end) = (omega arith, omega arith)

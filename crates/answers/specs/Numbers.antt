@@ -5,7 +5,7 @@ use Rattle.schema.specs.Records.{direction_number}
 use Rattle.answers.specs.declared.field.RowField.{RowField}
 use Rattle.answers.specs.declared.id.StableId.{StableId}
 use Rattle.answers.specs.declared.Refusal.{Refusal}
-use Rattle.answers.specs.declared.Refusal.TheVariants.{Length, TextTooLong, TableOutOfPlace, StrayByte, IdentityOutside, NotUtf8, TableTooLarge, ReferenceOutOfBounds, RangeOutOfBounds, RangesNotMonotonic, EntriesNotSorted, DuplicateEntry, OwnershipMismatch, ScopeParentCycle, InvalidStableId, StableIdsNotSorted, DuplicateStableId, InvalidBankInfo, StorageBoundExceeded, BindingKindMismatch, BindingPresenceMismatch, DuplicateRouteHalf, RoutePairMismatch}
+use Rattle.answers.specs.declared.Refusal.TheVariants.{Length, TextTooLong, TableOutOfPlace, StrayByte, IdentityOutside, NotUtf8, ReferenceOutOfBounds, RangeOutOfBounds, RangesNotMonotonic, EntriesNotSorted, DuplicateEntry, OwnershipMismatch, ScopeParentCycle, InvalidStableId, StableIdsNotSorted, DuplicateStableId, InvalidBankInfo, StorageBoundExceeded, BindingKindMismatch, BindingPresenceMismatch, DuplicateRouteHalf, RoutePairMismatch}
 use Rattle.answers.specs.Fields.{field_number, kind_number}
 
 abbrev pub bit : Bool → ℕ
@@ -29,7 +29,6 @@ numbers (TableOutOfPlace number) = 3 ∷ number ∷ []
 numbers (StrayByte number) = 4 ∷ number ∷ []
 numbers (IdentityOutside number) = 5 ∷ number ∷ []
 numbers (NotUtf8 number) = 6 ∷ number ∷ []
-numbers (TableTooLarge table) = 11 ∷ table ∷ []
 numbers (ReferenceOutOfBounds at target referenced rows) = 12 ∷ located at (target ∷ referenced ∷ rows ∷ [])
 numbers (RangeOutOfBounds at target start len) = 13 ∷ located at (target ∷ start ∷ len ∷ [])
 numbers (RangesNotMonotonic at start end) = 14 ∷ located at (start ∷ end ∷ [])

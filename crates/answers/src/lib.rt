@@ -16,7 +16,8 @@ use schema::index::RouteDirection;
 use std::error::Error;
 use std::fmt;
 
-// One variant for each refusal of document 01, named as the Rust names it, with its values one by one as the Rust has them; 1 to 6 are the packing rules'.
+// One variant for each refusal of document 01 that a pack can have (all but 11), named as the Rust names it, with its values one by one as the Rust has
+// them; 1 to 6 are the packing rules'.
 // Which text is too long is shown by the bit that tells an identity's text, 0 for the batch and 1 for the house.
 #[derive(Clone, Copy, Debug)]
 pub enum Refusal {
@@ -35,9 +36,6 @@ pub enum Refusal {
     },
     NotUtf8 {
         record: u32,
-    },
-    TableTooLarge {
-        table: u8,
     },
     ReferenceOutOfBounds {
         at: RowField,
@@ -155,7 +153,6 @@ impl Refusal {
             Refusal::StrayByte { record } => listed(&[4, u64::from(record)]),
             Refusal::IdentityOutside { record } => listed(&[5, u64::from(record)]),
             Refusal::NotUtf8 { record } => listed(&[6, u64::from(record)]),
-            Refusal::TableTooLarge { table } => listed(&[11, u64::from(table)]),
             Refusal::ReferenceOutOfBounds {
                 at,
                 target,

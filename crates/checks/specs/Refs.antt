@@ -1,4 +1,4 @@
--- Table lengths, references, ranges and spans: the checks that rows' checks are made of (view.rs, `check_*`). Assumes nothing.
+-- References, ranges and spans: the checks that rows' checks are made of (view.rs, `check_*`). Assumes nothing.
 use Rattle.std.specs.Prelude.{ℕ, ◌+◌, ◌-◌, ◌^◌, Bool, false, cond, List, [], ◌∷◌, ltb, leb, eqb, Option, Some, None, Result, Ok, Err}
 use Rattle.range.specs.declared.SliceRange.{SliceRange}
 use Rattle.range.specs.declared.IndexSpan.{IndexSpan}
@@ -6,15 +6,11 @@ use Rattle.range.specs.Range.{checked_end, saturating_end}
 use Rattle.answers.specs.declared.field.RowField.{RowField}
 use Rattle.answers.specs.declared.field.Field.{Field}
 use Rattle.answers.specs.declared.Refusal.{Refusal}
-use Rattle.answers.specs.declared.Refusal.TheVariants.{TableTooLarge, ReferenceOutOfBounds, RangeOutOfBounds, RangesNotMonotonic}
+use Rattle.answers.specs.declared.Refusal.TheVariants.{ReferenceOutOfBounds, RangeOutOfBounds, RangesNotMonotonic}
 use Rattle.answers.specs.Fields.{row_field}
 use Rattle.answers.specs.Checks.{Check, need}
 use Rattle.schema.specs.Tables.{start_of, rows_of}
 use Rattle.checks.specs.declared.refs.Found.{Found}
-
--- a table fits its key's domain, 2 ^ 32 rows
-abbrev pub length_check : (ℕ → ℕ) → ℕ → Check
-length_check rows t = need (leb (rows t) (2 ^ 32)) (TableTooLarge t)
 
 -- table g has no row v, to which a field refers: the refusal tells how many rows that table has
 abbrev pub missing : (ℕ → ℕ) → RowField → ℕ → ℕ → Refusal

@@ -1,12 +1,11 @@
-// Table lengths, references, ranges and spans.
+// References, ranges and spans.
 ghost use Rattle.std.specs.Prelude.{◌≡◌, [], ◌∷◌, ◌<◌};
 ghost use Rattle.answers.specs.Checks.{first};
 ghost use Rattle.schema.specs.Tables.{rows_of, tables};
-ghost use Rattle.checks.specs.Refs.{length_check, ref_to, looked_up, span_checks, range_checks};
+ghost use Rattle.checks.specs.Refs.{ref_to, looked_up, span_checks, range_checks};
 
 use answers::{Refusal, RowField};
 use range::{IndexSpan, SliceRange};
-use schema::index::KEYS;
 use schema::lent::{Pack, TableStarts};
 use schema::row::{Key, Row, Stored};
 
@@ -23,18 +22,6 @@ impl<K: Key> Found<K> {
         ensures { result ≡ K.Row.at pack.entry.bytes.now self.record_number }
     {
         K::Row::at(pack, self.record_number)
-    }
-}
-
-// Whether a table fits its key's domain.
-pub fn check_enclave_len(starts: &TableStarts, table: u8) -> Result<(), Refusal>
-    requires { table < tables }
-    ensures { result ≡ first (length_check (rows_of starts.now.firsts) table ∷ []) }
-{
-    if u64::from(starts.rows(table)) <= KEYS {
-        Ok(())
-    } else {
-        Err(Refusal::TableTooLarge { table })
     }
 }
 

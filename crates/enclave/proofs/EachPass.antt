@@ -80,6 +80,6 @@ module _ (m : Image) (P : Refusal → Type 0)
   each_scope_mode i reactor (Some j) = counted refl (plain refl refl none)
 
   -- the passes after those over reactors and actions
-  pub each_other : Each P (checks_of m (drop 5 passes))
+  pub each_other : Each P (checks_of m (drop 4 passes))
   unfolding checks_of pass_checks the_passes the_rows the_lists the_parts is_slot numbers
   each_other = search (counted, plain, none, each-append, each-run, each-cond, each_effect, each_parent, each_scope_mode) depth 60 fits 10000

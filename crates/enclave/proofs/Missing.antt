@@ -64,11 +64,10 @@ module _ (m : Image) where
   unfolding enclave_checks checks_of pass_checks the_passes the_lists numbers
   enclave_tells =
       let others = each_other m (Tells m.rows) (told m.rows) other in
-      each-append (each-run (λ i. more (not_missing _ _ refl) none) 0 _)
-      (each-append (each-run (λ i. more (told _ _ _ _ _ refl) none) 0 _)
+      each-append (each-run (λ i. more (told _ _ _ _ _ refl) none) 0 _)
       (each-append (each-run (λ i. more (not_missing _ _ refl) none) 0 _)
       (each-append (each-run reactors_tell 0 _)
-      (each-append (each-run actions_tell 0 _) others))))
+      (each-append (each-run actions_tell 0 _) others)))
 
 pub missing_tells_rows : MissingTellsRows
 unfolding numbers

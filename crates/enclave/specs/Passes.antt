@@ -4,7 +4,7 @@ use Rattle.answers.specs.declared.field.Field.TheVariants as field
 use Rattle.answers.specs.declared.id.IdKind.TheVariants as kind
 use Rattle.answers.specs.Checks.{Check, run}
 use Rattle.checks.specs.Image.{Image}
-use Rattle.checks.specs.Refs.{length_check, ref_to}
+use Rattle.checks.specs.Refs.{ref_to}
 use Rattle.checks.specs.Identities.{id_check}
 use Rattle.row_checks.specs.Reactors.{reactor_checks}
 use Rattle.row_checks.specs.Actions.{action_checks}
@@ -28,22 +28,15 @@ over t f = record { items = λ rows. rows t; checks = f }
 abbrev pub times : ℕ → (Image → ℕ → List Check) → Pass
 times n f = record { items = λ rows. n; checks = f }
 
--- the tables whose length is checked: 2 to 7, 23 and 24
-abbrev pub length_table : ℕ → ℕ
-length_table i = cond (ltb i 6) (i + 2) (cond (eqb i 6) 23 24)
-
-unfoldable pub length_checks : Image → ℕ → List Check
-length_checks m i = length_check m.rows (length_table i) ∷ []
-
 abbrev pub root_checks : Image → ℕ → List Check
 root_checks m i = ref_to m.rows 1 0 field.RootReactor 2 0 ∷ []
 
 abbrev pub enclave_id_checks : Image → ℕ → List Check
 enclave_id_checks m i = id_check m.text kind.Enclave 0 m.enclave_id ∷ []
 
--- table lengths, root reactor, identity
+-- root reactor, identity
 unfoldable pub head_passes : List Pass
-head_passes = times 8 length_checks ∷ times 1 root_checks ∷ times 1 enclave_id_checks ∷ []
+head_passes = times 1 root_checks ∷ times 1 enclave_id_checks ∷ []
 
 -- the rows but for those of scopes
 unfoldable pub table_passes : List Pass

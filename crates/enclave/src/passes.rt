@@ -2,11 +2,11 @@
 ghost use Rattle.std.specs.Prelude.{◌≡◌};
 ghost use Rattle.answers.specs.Checks.{first, run};
 ghost use Rattle.checks.specs.Image.{image_of};
-ghost use Rattle.enclave.specs.Passes.{length_checks, root_checks, enclave_id_checks, head_passes, table_passes, row_passes, reaction_list_passes, scope_list_passes, entry_passes, enclave_list_passes, list_passes, checks_of};
+ghost use Rattle.enclave.specs.Passes.{root_checks, enclave_id_checks, head_passes, table_passes, row_passes, reaction_list_passes, scope_list_passes, entry_passes, enclave_list_passes, list_passes, checks_of};
 
 use answers::{Field, IdKind, Refusal, RowField, StableId};
 use checks::identities::validate_id;
-use checks::refs::{check_enclave_len, check_exists};
+use checks::refs::check_exists;
 use list_checks::level_lists::{
     check_level_entries, check_lifecycle_entries, check_lists_of_scopes, check_shutdown_reactions,
     check_triggers_of_actions, check_triggers_of_ports,
@@ -29,25 +29,7 @@ use schema::entries::{
 use schema::index::ReactorIndex;
 use schema::lent::Enclave;
 use schema::row::{Row, Stored};
-use schema::rows::{
-    ActionImage, EnclaveImage, ModeImage, PortImage, ReactionImage, ReactorImage,
-    RequiredBindingImage, RouteImage, ScopeImage,
-};
-
-// The lengths of the tables that keys name, and of routes and bindings.
-#[tactic(auto, using(answers::proofs::Laws::list_laws), unfolding(answers::specs::Checks::first, answers::specs::Checks::run, crate::specs::Passes::length_checks))]
-fn check_lengths(e: &Enclave) -> Result<(), Refusal>
-    ensures { result ≡ first (run (length_checks (image_of e.now)) 0 8) }
-{
-    check_enclave_len(e.starts, ReactorImage::TABLE)?;
-    check_enclave_len(e.starts, ActionImage::TABLE)?;
-    check_enclave_len(e.starts, PortImage::TABLE)?;
-    check_enclave_len(e.starts, ReactionImage::TABLE)?;
-    check_enclave_len(e.starts, ModeImage::TABLE)?;
-    check_enclave_len(e.starts, ScopeImage::TABLE)?;
-    check_enclave_len(e.starts, RouteImage::TABLE)?;
-    check_enclave_len(e.starts, RequiredBindingImage::TABLE)
-}
+use schema::rows::EnclaveImage;
 
 #[tactic(auto, unfolding(answers::specs::Checks::first, answers::specs::Checks::run))]
 fn check_root(e: &Enclave) -> Result<(), Refusal>
@@ -73,12 +55,11 @@ fn check_enclave_id(e: &Enclave) -> Result<(), Refusal>
     validate_id(e.texts, id)
 }
 
-// Table lengths, root reactor, identity.
+// Root reactor, identity.
 #[tactic(auto, using(answers::proofs::Laws::list_laws), unfolding(answers::specs::Checks::first, crate::specs::Passes::checks_of, crate::specs::Passes::pass_checks, crate::specs::Passes::head_passes))]
 fn check_head(e: &Enclave) -> Result<(), Refusal>
     ensures { result ≡ first (checks_of (image_of e.now) head_passes) }
 {
-    check_lengths(e)?;
     check_root(e)?;
     check_enclave_id(e)
 }

@@ -38,7 +38,7 @@ module _ (m : Image) (state action : ℕ) where
   pass-looser f fs h l = looser-append (looser-run (f.checks m) (f.checks looser) h 0 (f.items m.rows)) l
 
   -- the passes after those over reactors and actions look at no bound
-  others_same : Looser (checks_of m (drop 5 passes)) (checks_of looser (drop 5 passes))
+  others_same : Looser (checks_of m (drop 4 passes)) (checks_of looser (drop 4 passes))
   unfolding checks_of pass_checks the_passes the_rows the_lists
   others_same = looser-same _
 
@@ -47,9 +47,8 @@ module _ (m : Image) (state action : ℕ) where
   enclave-looser h g =
       pass-looser _ _ (λ i. looser-same _)
       (pass-looser _ _ (λ i. looser-same _)
-      (pass-looser _ _ (λ i. looser-same _)
       (pass-looser _ _ (λ i. reactor-looser i h)
-      (pass-looser _ _ (λ i. action-looser i g) others_same))))
+      (pass-looser _ _ (λ i. action-looser i g) others_same)))
 
 pub larger-bounds : LargerBounds
 larger-bounds m state action h g = looser-stays (enclave-looser m state action h g)

@@ -16,7 +16,7 @@ use Rattle.answers.proofs.Each.{Each, none, more, each-append, each-run}
 use Rattle.checks.specs.Image.{Image}
 use Rattle.row_checks.specs.Reactors.{reactor_checks}
 use Rattle.row_checks.specs.Actions.{action_binding_checks, action_checks}
-use Rattle.enclave.specs.Passes.{Pass, passes, over, times, length_checks, root_checks, enclave_id_checks, pass_checks, checks_of, enclave_checks}
+use Rattle.enclave.specs.Passes.{Pass, passes, over, times, root_checks, enclave_id_checks, pass_checks, checks_of, enclave_checks}
 use Rattle.enclave.proofs.Opened.{the_passes, the_rows, the_lists, the_parts}
 use Rattle.enclave.proofs.EachPass.{is_missing, each_initial_mode, each_bank, each_action_binding, each_other}
 
@@ -41,7 +41,7 @@ module _ (m : Image) where
   other r e f = e
 
   -- the passes after those over reactors and actions
-  others-plain : Plain (checks_of m (drop 5 passes))
+  others-plain : Plain (checks_of m (drop 4 passes))
   others-plain = each_other m NoSlot absent other
 
   -- what is left of the slot checks: one test for each reactor and each action
@@ -70,8 +70,7 @@ module _ (m : Image) where
   pub enclave-slots : slots_hold (enclave_checks m) ≡ (slots_hold (run (reactor_checks m) 0 (m.rows 2)) && slots_hold (run (action_checks m) 0 (m.rows 3)))
   unfolding enclave_checks the_passes pass_checks the_lists is_slot numbers
   enclave-slots =
-      pass-plain (times 8 length_checks) (drop 1 passes) (λ i. more refl none)
-      ∙ pass-plain (times 1 root_checks) (drop 2 passes) (λ i. more refl none)
-      ∙ pass-plain (times 1 enclave_id_checks) (drop 3 passes) (λ i. more refl none)
-      ∙ pass-slots (over 2 reactor_checks) (drop 4 passes)
-      ∙ ap (slots_hold (run (reactor_checks m) 0 (m.rows 2)) &&◌) (pass-slots (over 3 action_checks) (drop 5 passes) ∙ rw (plain-holds others-plain) (and-true _))
+      pass-plain (times 1 root_checks) (drop 1 passes) (λ i. more refl none)
+      ∙ pass-plain (times 1 enclave_id_checks) (drop 2 passes) (λ i. more refl none)
+      ∙ pass-slots (over 2 reactor_checks) (drop 3 passes)
+      ∙ ap (slots_hold (run (reactor_checks m) 0 (m.rows 2)) &&◌) (pass-slots (over 3 action_checks) (drop 4 passes) ∙ rw (plain-holds others-plain) (and-true _))

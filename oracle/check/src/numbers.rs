@@ -41,7 +41,7 @@ fn of_row(error: &Error) -> Option<Vec<u64>> {
         Some([&[refusal, table(name), index.into()], rest].concat())
     };
     match *error {
-        TableTooLarge { table: name } => Some(vec![11, table(name)]),
+        TableTooLarge { .. } => unreachable!("a pack holds at most 65,536 records"),
         ReferenceOutOfBounds { table: name, index, field: of, target, referenced } => {
             at(12, name, index, &[field(of), table(target), referenced.into()])
         }

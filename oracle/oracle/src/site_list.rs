@@ -7,7 +7,6 @@ pub struct Site {
     pub never: Option<&'static str>,
 }
 
-const NO_LONG_TABLE: &str = "a pack holds at most 65,536 records";
 const ROW_FIRST: &str = "the scope rows have checked every parent";
 const LIST_FIRST: &str = "the pass over the whole of reaction_modes comes first";
 const STATION_FIRST: &str = "the station check has checked the identity";
@@ -107,11 +106,6 @@ fn line_head() -> Vec<Site> {
          13 federate.enclaves: end past 64 bits
          17 federate.enclaves",
     ));
-    for table in
-        ["reactors", "actions", "ports", "reactions", "modes", "scopes", "routes", "required_bindings"]
-    {
-        sites.push(never(format!("11 {table}"), NO_LONG_TABLE));
-    }
     sites.push(met("12 enclave.root_reactor"));
     sites.extend(invalid("enclave"));
     sites

@@ -75,14 +75,13 @@ const fn refusal(number: u64, name: &'static str, values: &'static [Value]) -> R
 
 const IDENTITY: &[Value] = &[Kind, INDEX, BIT, START, LENGTH];
 
-pub const REFUSALS: [Refusal; 23] = [
+pub const REFUSALS: [Refusal; 22] = [
     refusal(1, "length of the pack", &[]),
     refusal(2, "text too long", &[Plain("text")]),
     refusal(3, "table number unknown or out of place", &[RECORD]),
     refusal(4, "stray byte, bit or kind, or absent field not zero", &[RECORD]),
     refusal(5, "identity outside its text", &[RECORD]),
     refusal(6, "identity not UTF-8", &[RECORD]),
-    refusal(11, "TableTooLarge", &[TABLE]),
     refusal(12, "ReferenceOutOfBounds", &[TABLE, INDEX, Field, TARGET, Plain("referenced"), Plain("rows")]),
     refusal(13, "RangeOutOfBounds", &[TABLE, INDEX, Field, TARGET, START, LENGTH]),
     refusal(14, "RangesNotMonotonic", &[TABLE, INDEX, Field, START, Plain("previous end")]),
