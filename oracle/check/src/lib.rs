@@ -4,6 +4,7 @@ mod enclave;
 mod identities;
 mod links;
 mod numbers;
+pub mod worth;
 
 pub use answer::Answer;
 pub use links::links;

@@ -7,6 +7,7 @@ mod show;
 mod site_list;
 mod sites;
 mod stats;
+mod worth;
 
 use check::answer;
 use pack::corpus::{Case, Corpus, Next};
@@ -22,6 +23,7 @@ oracle case CORPUS N DIR             case N as line.pack, batch.txt and house.tx
 oracle sample CORPUS OUT ANSWERS [COUNT]
                                      small cases that meet every site that CORPUS meets
 oracle compare ANSWERS REPLAYED      two files of answer lines, line by line
+oracle worth CORPUS                  tries what a yes is worth on each accepted station and line
 oracle lines                         document 01's lines tried by hand
 oracle lines OUT ANSWERS             the same as a corpus and its answers";
 
@@ -35,6 +37,7 @@ fn main() -> ExitCode {
         ["sample", corpus, out, answers] => sample::write(corpus, out, answers, "3000"),
         ["sample", corpus, out, answers, count] => sample::write(corpus, out, answers, count),
         ["compare", answers, replayed] => compare::print(answers, replayed),
+        ["worth", corpus] => worth::print(corpus),
         ["lines"] => lines::print(),
         ["lines", out, answers] => lines::write(out, answers),
         [corpus] if !corpus.starts_with('-') => answers(corpus),
