@@ -51,7 +51,8 @@ fn owners(reactors: &[&Row], mode: usize) -> Vec<u64> {
 
 /// The pairs of a mode and its scope are those of a scope and the mode that it carries; no scope is in two.
 fn paired(modes: &[&Row], scopes: &[&Row]) -> bool {
-    let mut by_mode: Vec<_> = modes.iter().enumerate().map(|(mode, row)| (row.numbers[1] as usize, mode)).collect();
+    let mut by_mode: Vec<_> =
+        modes.iter().enumerate().map(|(mode, row)| (row.numbers[1] as usize, mode)).collect();
     let by_scope: Vec<_> =
         scopes.iter().enumerate().filter_map(|(scope, row)| Some((scope, optional(row, 2)?))).collect();
     by_mode.sort();
