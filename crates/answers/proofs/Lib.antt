@@ -5,3 +5,4 @@ pub mod Slots
 pub mod RefusalNumbers
 pub mod Tests
 pub mod Each
+pub mod Passed

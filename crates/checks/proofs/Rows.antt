@@ -5,6 +5,7 @@ use borrow.Author.Tests.{ltb-true}
 use Rattle.answers.specs.declared.Refusal.{Refusal}
 use Rattle.std.specs.Prelude.{Result, Ok, Err}
 use Rattle.answers.specs.Checks.{Check, need, first, Decides, Outcome, passed}
+use Rattle.answers.proofs.Passed.{Passes, below}
 use Rattle.range.specs.declared.SliceRange.{SliceRange}
 use Rattle.range.specs.Range.{checked_end}
 use Rattle.schema.specs.Tables.{tables, start_of, rows_of, IsRising}
@@ -19,13 +20,8 @@ pub row-below : (s : List ℕ) → IsRising s → (t i : ℕ) → t < tables →
 row-below s up t i known h = row_inside s t i (start_of s t + i) up known refl h
 
 -- a reference whose check passes is to a row that its table has
-holds : (b : Bool) (r : Refusal) → first (need b r ∷ []) ≡ passed → b ≡ true
-unfolding first
-holds true r e = refl
-holds false r e = let z : ◌≡◌ {A = Bool} true false = cc in absurd (true≢false z)
-
 pub passed-row : (v m : ℕ) {r : Refusal} {o : Outcome} → Decides (need (ltb v m) r ∷ []) o → o ≡ passed → v < m
-passed-row v m {r} d e = ltb-true v m (holds (ltb v m) r (sym d.is ∙ e))
+passed-row v m {r} d e = let h : Passes (need (ltb v m) r ∷ []) = record { is = sym d.is ∙ e } in below h
 
 -- so does one that was looked up, among m records if the tables end there
 module _ {K : Type 0} (s : List ℕ) (at : RowField) (g v m : ℕ) (key : K) (found : Found K) where

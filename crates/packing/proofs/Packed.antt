@@ -1,15 +1,15 @@
 -- What the packing rules say of the records of a pack that passes them. Assumes nothing.
-use Prim.Native.Nat.{ℕ, zero, suc, ◌+◌, ◌-◌, ◌/◌, ◌%◌, ◌<◌, ◌≤◌}
-use mathlib.Core.Bool.{Bool, true, false, true≢false}
+use Prim.Native.Nat.{ℕ, zero, suc, ◌-◌, ◌/◌, ◌%◌, ◌<◌, ◌≤◌}
+use mathlib.Core.Bool.{true}
 use mathlib.Core.Path.{◌≡◌, refl}
-use mathlib.Core.List.{List, [], ◌∷◌, ◌++◌}
+use mathlib.Core.List.{List}
 use native.Mathlib.Decide.{dec_le}
 use native.Mathlib.Omega.{arith}
 use lib.Dec.{ltb, leb, eqb}
 use lib.ListN.{length}
 use borrow.Author.Tests.{ltb-true, leb-true, eqb-true}
-use Rattle.answers.specs.declared.Refusal.{Refusal}
-use Rattle.answers.specs.Checks.{Check, need, first, run, passed}
+use Rattle.answers.specs.Checks.{first, passed}
+use Rattle.answers.proofs.Passed.{Passes, test, rest, item}
 use Rattle.schema.specs.Layout.{layouts}
 use Rattle.schema.specs.Bytes.{byte_of}
 use Rattle.packing.specs.declared.PackKind.{PackKind}
@@ -27,25 +27,6 @@ place_after kind p (suc n) e = let m : suc n - 1 ≡ n = omega arith in rw m
 
 pub ruleset place_laws = (place_first, place_after)
 
--- where a list passes, each of its checks does
-passed_first : (b : Bool) (r : Refusal) (cs : List Check) → first (need b r ∷ cs) ≡ passed → (b ≡ true) × (first cs ≡ passed)
-unfolding first
-passed_first true r cs e = (refl, e)
-passed_first false r cs e = let z : ◌≡◌ {A = Bool} true false = cc in absurd (true≢false z)
-
-passed-append : (xs ys : List Check) → first (xs ++ ys) ≡ passed → (first xs ≡ passed) × (first ys ≡ passed)
-unfolding first
-passed-append [] ys e = (refl, e)
-passed-append (need true r ∷ xs) ys e = passed-append xs ys e
-passed-append (need false r ∷ xs) ys e = let z : ◌≡◌ {A = Bool} true false = cc in absurd (true≢false z)
-
-passed-run : (f : ℕ → List Check) (i n : ℕ) → first (run f i n) ≡ passed → (k : ℕ) → i ≤ k → k < i + n → first (f k) ≡ passed
-unfolding run
-passed-run f i zero e k l u = absurd (omega arith)
-passed-run f i (suc n) e k l u =
-    let h = passed-append (f i) (run f (suc i) n) e in
-    elim (dec_le k i) [ yes g ↦ (let x : k ≡ i = omega arith in rw x h.0) | no g ↦ passed-run f (suc i) n h.1 k (omega arith) (omega arith) ]
-
 -- whole records, not too many, and one at least
 pub record PackLength (n : ℕ) : Type 0 where
   pub some : 0 < n
@@ -56,15 +37,16 @@ module _ (kind : PackKind) (p batch house : List ℕ) (h : first (packing_checks
   pub fits : PackLength (length p)
   unfolding packing_checks
   fits =
-      let a = both (ltb 0 (length p)) _ (passed_first _ _ _ h).0 in
+      let w : Passes (packing_checks kind p batch house) = record { is = h } in
+      let a = both (ltb 0 (length p)) _ (test w) in
       let b = both (leb (length p) 4194304) _ a.1 in
       record { some = ltb-true 0 (length p) a.0; few = leb-true (length p) 4194304 b.0; whole = eqb-true (length p % 64) 0 b.1 }
 
   pub placed-at : (n : ℕ) → n < length p / 64 → in_place kind p n ≡ true
   unfolding packing_checks record_checks
   placed-at n l =
-      let rest = (passed_first _ _ _ (passed_first _ _ _ (passed_first _ _ _ h).1).1).1 in
-      (passed_first _ _ _ (passed-run (record_checks kind p batch house) 0 (length p / 64) rest n (omega arith) (omega arith))).0
+      let w : Passes (packing_checks kind p batch house) = record { is = h } in
+      test (item (record_checks kind p batch house) (length p / 64) (rest (rest (rest w))) n l)
 
 module _ (p batch house : List ℕ) (h : first (packing_checks Enclave p batch house) ≡ passed) where
   -- from record 1 on, the tables are 2 or above, and rise
