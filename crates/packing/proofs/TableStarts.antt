@@ -116,6 +116,10 @@ below_at p rows (suc k) t h =
     (λ b. let l = ltb-false t k b in let e : t ≡ k = omega arith in rw e (get_or_at (starts_below p rows k) (table_start p rows k) [] 0 k n))
 
 module _ (p : List ℕ) (rows : ℕ) where
+  pub starts_length : length (table_starts p rows) ≡ 26
+  unfolding table_starts
+  starts_length = below_length p rows 26
+
   pub starts-at : (t : ℕ) → t < 26 → get_or (table_starts p rows) t 0 ≡ table_start p rows t
   unfolding table_starts
   starts-at t h = below_at p rows 26 t h

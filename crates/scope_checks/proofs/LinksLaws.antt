@@ -56,6 +56,10 @@ module _ (parent : ℕ → Option ScopeIndex) where
   followed_above (suc n) s h =
       let e = followed_least n (suc n) (parent s.0) (omega arith) in omega arith
 
+  -- fewer links than n from scope i, which has a parent: the parent has one less
+  pub parent_links : (n i : ℕ) (s : ScopeIndex) → links_of parent n i < n → parent i ≡ Some s → links_of parent n i ≡ links_of parent n s.0 + 1
+  parent_links n i s l e = let u = rw e at l in rw e (followed_above n s u)
+
 pub ruleset followed_laws = (followed_none, followed_next, followed_cut, followed_above)
 
 -- the links of one scope more
