@@ -1,5 +1,5 @@
 -- References, ranges and spans: the checks that rows' checks are made of (view.rs, `check_*`). Assumes nothing.
-use Rattle.std.specs.Prelude.{ℕ, ◌+◌, ◌-◌, ◌^◌, Bool, false, cond, List, [], ◌∷◌, ltb, leb, eqb, Option, Some, None, Result, Ok, Err}
+use Rattle.std.specs.Prelude.{ℕ, ◌+◌, ◌-◌, Bool, false, cond, List, [], ◌∷◌, ltb, leb, eqb, Option, Some, None, Result, Ok, Err}
 use Rattle.range.specs.declared.SliceRange.{SliceRange}
 use Rattle.range.specs.declared.IndexSpan.{IndexSpan}
 use Rattle.range.specs.Range.{checked_end, saturating_end}

@@ -1,5 +1,5 @@
 -- The passes of `validate_enclave_const` in their order, each with its items' checks. Assumes nothing.
-use Rattle.std.specs.Prelude.{ℕ, ◌+◌, cond, List, [], ◌∷◌, ◌++◌, ltb, eqb}
+use Rattle.std.specs.Prelude.{ℕ, List, [], ◌∷◌, ◌++◌}
 use Rattle.answers.specs.declared.field.Field.TheVariants as field
 use Rattle.answers.specs.declared.id.IdKind.TheVariants as kind
 use Rattle.answers.specs.Checks.{Check, run}
