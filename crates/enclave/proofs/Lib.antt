@@ -2,3 +2,4 @@ pub mod Whole
 pub mod Opened
 pub mod EachPass
 pub mod Missing
+pub mod Accepted

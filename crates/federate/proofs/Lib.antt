@@ -3,3 +3,4 @@ pub mod Gaps
 pub mod EnclaveLaws
 pub mod Whole
 pub mod Missing
+pub mod Accepted

@@ -23,10 +23,10 @@ module _ (p batch house : List ℕ) where
   abbrev pub own : List Check
   own = own_checks (identity_text batch house) (federate_at p 0) (enclaves_of p)
 
-  abbrev start : ℕ
+  abbrev pub start : ℕ
   start = (federate_at p 0).enclaves.0.start
 
-  abbrev enclaves : List Check
+  abbrev pub enclaves : List Check
   enclaves = run (record_checks p batch house start) 0 (records_of p)
 
   abbrev pub routes : List Check
@@ -35,16 +35,16 @@ module _ (p batch house : List ℕ) where
   abbrev pub found : Result ℕ Refusal
   found = enclaves_answer p batch house start
 
-  in-parts : federate_checks p batch house ≡ own ++ (enclaves ++ routes)
+  pub in_parts : federate_checks p batch house ≡ own ++ (enclaves ++ routes)
   unfolding federate_checks
-  in-parts = simp append_assoc
+  in_parts = simp append_assoc
 
   pub own_refused : {r : Refusal} → first own ≡ Err r → federate_result p batch house ≡ Err r
   unfolding federate_result
-  own_refused e = rw (in-parts, first_stops own (enclaves ++ routes) e) refl
+  own_refused e = rw (in_parts, first_stops own (enclaves ++ routes) e) refl
 
   past-own : first own ≡ passed → first (federate_checks p batch house) ≡ first (enclaves ++ routes)
-  past-own e = rw in-parts (first_past own (enclaves ++ routes) e)
+  past-own e = rw in_parts (first_past own (enclaves ++ routes) e)
 
   pub enclaves_refused : {r : Refusal} → first own ≡ passed → found ≡ Err r → federate_result p batch house ≡ Err r
   unfolding federate_result
