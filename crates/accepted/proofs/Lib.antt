@@ -1,0 +1,10 @@
+pub mod Totals
+pub mod Depths
+pub mod Spans
+pub mod Rows
+pub mod Entries
+pub mod Chains
+pub mod Modes
+pub mod Tables
+pub mod Worth
+pub mod Eleven
