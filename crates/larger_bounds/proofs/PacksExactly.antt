@@ -10,7 +10,7 @@ use Rattle.answers.specs.Checks.{first, passed, Outcome}
 use Rattle.answers.specs.Slots.{without_slots}
 use Rattle.answers.proofs.RefusalNumbers.{number-positive}
 use Rattle.schema.specs.Bytes.{byte_of}
-use Rattle.schema.specs.Tables.{start_of, rows_of}
+use Rattle.schema.specs.Tables.{tables, start_of, rows_of}
 use Rattle.packing.specs.Starts.{table_starts}
 use Rattle.packing.proofs.TableRows.{rows_by_byte}
 use Rattle.checks.specs.Image.{Image}
@@ -37,10 +37,10 @@ module _ (p batch house : List ℕ) (h : Packed p batch house) where
   start t = start_of (table_starts p 1) t
 
   -- row i of table t is a record of it, and a record of a table of rows is such a row
-  row_at : (t i : ℕ) → t < 25 → i < rows_of (table_starts p 1) t → (start t + i < length p / 64) × (byte_of p (start t + i) 0 ≡ t)
+  row_at : (t i : ℕ) → t < tables → i < rows_of (table_starts p 1) t → (start t + i < length p / 64) × (byte_of p (start t + i) 0 ≡ t)
   row_at t i k l = let r = (rows_by_byte p batch house h t (start t + i) k).0 (omega arith, omega arith) in (r.1, r.2)
 
-  record_at : (t n : ℕ) → 2 ≤ t → t < 25 → n < length p / 64 → byte_of p n 0 ≡ t → (n - start t < rows_of (table_starts p 1) t) × (start t + (n - start t) ≡ n)
+  record_at : (t n : ℕ) → 2 ≤ t → t < tables → n < length p / 64 → byte_of p n 0 ≡ t → (n - start t < rows_of (table_starts p 1) t) × (start t + (n - start t) ≡ n)
   record_at t zero g k l e = let z = has-enclave p batch house h in absurd (omega arith)
   record_at t (suc n) g k l e = let r = (rows_by_byte p batch house h t (suc n) k).1 (omega arith, l, e) in (omega (arith, r.0, r.1), omega (arith, r.0))
 

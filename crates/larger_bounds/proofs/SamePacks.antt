@@ -14,7 +14,7 @@ use Rattle.schema.specs.Bytes.{byte_of}
 use Rattle.schema.specs.Rows.{row, reactor_of, action_of, port_of, reaction_of, mode_of, scope_of, index_of, level_of, startup_of, lifecycle_of, route_of, binding_of, enclave_at, reactor_at, action_at, port_at, reaction_at, mode_at, scope_at, index_at, level_at, startup_at, lifecycle_at, route_at, binding_at}
 use Rattle.packing.specs.Shape.{used}
 use Rattle.schema.specs.Records.{records_of}
-use Rattle.schema.specs.Tables.{start_of, rows_of}
+use Rattle.schema.specs.Tables.{tables, start_of, rows_of}
 use Rattle.packing.specs.Starts.{first_reaching, starts_below, table_starts}
 use Rattle.packing.proofs.TableStarts.{starts_from}
 use Rattle.checks.specs.Image.{Image, image, action_part, reaction_part, route_part}
@@ -24,7 +24,7 @@ use Rattle.larger_bounds.proofs.RowBytes.{number_same, row_same}
 
 -- a table of an image: past the last one, table 2 stands for it
 abbrev pub table_in : ℕ → ℕ
-table_in t = cond (ltb t 26) t 2
+table_in t = cond (ltb t tables) t 2
 
 -- the image whose lists are those of its tables; its checks look at no others
 abbrev pub in_tables : Image → Image
@@ -67,7 +67,7 @@ module _ (p q : List ℕ) (d : DifferInStorage p q) where
 
   pub starts-same : (rows : ℕ) → table_starts q rows ≡ table_starts p rows
   unfolding table_starts
-  starts-same rows = below-same rows 26
+  starts-same rows = below-same rows (suc tables)
 
   -- the bytes of a record that is no enclave's, and the first four after it
   pub record_same : (n : ℕ) → (byte_of p n 0 ≡ 1 → ⊥) → (j : ℕ) → j < 68 → byte_of q n j ≡ byte_of p n j
@@ -100,10 +100,10 @@ module _ (p q : List ℕ) (d : DifferInStorage p q) where
     rows_same of l u n g = row_same p q n n of l u (record_same n (not-enclave n g))
 
     table-start : (t i : ℕ) → 1 ≤ start_of (table_starts p 1) (table_in t) + i
-    table-start t i = go (ltb t 26) refl
+    table-start t i = go (ltb t tables) refl
       where
-        go : (b : Bool) → ltb t 26 ≡ b → 1 ≤ start_of (table_starts p 1) (cond b t 2) + i
-        go true e = let f = starts_from p 1 t (ltb-true t 26 e) in omega arith
+        go : (b : Bool) → ltb t tables ≡ b → 1 ≤ start_of (table_starts p 1) (cond b t 2) + i
+        go true e = let h = ltb-true t tables e in let f = starts_from p 1 t (omega arith) in omega arith
         go false e = let f = starts_from p 1 2 (omega arith) in omega arith
 
     pub image-same :

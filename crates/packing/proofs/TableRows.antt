@@ -10,7 +10,7 @@ use borrow.Author.Tests.{leb-true, lt-ltb, le-ltb}
 use Rattle.identity.proofs.Tests.{cases}
 use Rattle.answers.specs.Checks.{first, passed}
 use Rattle.schema.specs.Bytes.{byte_of}
-use Rattle.schema.specs.Tables.{start_of}
+use Rattle.schema.specs.Tables.{tables, start_of}
 use Rattle.packing.specs.declared.PackKind.TheVariants.{Enclave}
 use Rattle.packing.specs.Packing.{packing_checks}
 use Rattle.schema.specs.Records.{records_of}
@@ -50,7 +50,7 @@ module _ (p batch house : List ℕ) (h : first (packing_checks Enclave p batch h
   row_table (suc n) l u = (rows_above p batch house h n u).0
 
   -- a record from table t's start on is of table t or a later one; one before that start is not
-  from_start : (t n : ℕ) → t < 26 → start t ≤ n → n < length p / 64 → t ≤ byte_of p n 0
+  from_start : (t n : ℕ) → t ≤ tables → start t ≤ n → n < length p / 64 → t ≤ byte_of p n 0
   from_start t n k l u =
       let e = starts-at p 1 t k in
       let f = starts_from p 1 t k in
@@ -61,10 +61,10 @@ module _ (p batch house : List ℕ) (h : first (packing_checks Enclave p batch h
       let g = leb-true t (byte_of p (start t) 0) (rw (lt-ltb (start t) (records_of p) (omega arith), le-ltb (byte_of p (start t) 0) 2 low) at (rw (sym e) at a)) in
       omega arith
 
-  before_start : (t n : ℕ) → t < 26 → 1 ≤ n → n < start t → byte_of p n 0 < t
+  before_start : (t n : ℕ) → t ≤ tables → 1 ≤ n → n < start t → byte_of p n 0 < t
   before_start t n k l u = (not-reached p t n (before_first p t (records_of p) 1 n l (rw (starts-at p 1 t k) at u))).1
 
-  row_is : (t n : ℕ) → t < 25 → IsRow p t n → (1 ≤ n) × (n < length p / 64) × (byte_of p n 0 ≡ t)
+  row_is : (t n : ℕ) → t < tables → IsRow p t n → (1 ≤ n) × (n < length p / 64) × (byte_of p n 0 ≡ t)
   row_is t n k r =
       let f = starts_from p 1 t (omega arith) in
       let w = starts-within p 1 (t + 1) (omega arith) some in
@@ -74,7 +74,7 @@ module _ (p batch house : List ℕ) (h : first (packing_checks Enclave p batch h
       let b = before_start (t + 1) n (omega arith) l.0 r.1 in
       (l.0, l.1, omega arith)
 
-  record_is : (t n : ℕ) → t < 25 → (1 ≤ n) × (n < length p / 64) × (byte_of p n 0 ≡ t) → IsRow p t n
+  record_is : (t n : ℕ) → t < tables → (1 ≤ n) × (n < length p / 64) × (byte_of p n 0 ≡ t) → IsRow p t n
   record_is t n k (l, u, e) = (
     elim (dec_le (start t) n) [ yes y ↦ y | no y ↦ absurd (let b = before_start t n (omega arith) l (omega arith) in omega arith) ],
     elim (dec_le (start (t + 1)) n) [ yes y ↦ absurd (let b = from_start (t + 1) n (omega arith) y u in omega arith) | no y ↦ omega arith ],

@@ -11,7 +11,7 @@ use lib.Seq.{get_or_at, take-suc-set, take_all}
 use borrow.Author.Tests.{ltb-true, ltb-false, leb-false, lt-leb}
 use Rattle.identity.proofs.Tests.{cases}
 use Rattle.schema.specs.Bytes.{byte_of}
-use Rattle.schema.specs.Tables.{IsRising, EndsInside}
+use Rattle.schema.specs.Tables.{tables, IsRising, EndsInside}
 use Rattle.schema.specs.Records.{records_of}
 use Rattle.schema.proofs.Counts.{records_inside, records_few}
 use Rattle.packing.proofs.Records.{some_record}
@@ -116,38 +116,38 @@ below_at p rows (suc k) t h =
     (λ b. let l = ltb-false t k b in let e : t ≡ k = omega arith in rw e (get_or_at (starts_below p rows k) (table_start p rows k) [] 0 k n))
 
 module _ (p : List ℕ) (rows : ℕ) where
-  pub starts_length : length (table_starts p rows) ≡ 26
+  pub starts_length : length (table_starts p rows) ≡ suc tables
   unfolding table_starts
-  starts_length = below_length p rows 26
+  starts_length = below_length p rows (suc tables)
 
-  pub starts-at : (t : ℕ) → t < 26 → get_or (table_starts p rows) t 0 ≡ table_start p rows t
+  pub starts-at : (t : ℕ) → t ≤ tables → get_or (table_starts p rows) t 0 ≡ table_start p rows t
   unfolding table_starts
-  starts-at t h = below_at p rows 26 t h
+  starts-at t h = below_at p rows (suc tables) t (omega arith)
 
   -- each start is at least `rows`, and inside the pack where `rows` is
-  pub starts_from : (t : ℕ) → t < 26 → rows ≤ get_or (table_starts p rows) t 0
+  pub starts_from : (t : ℕ) → t ≤ tables → rows ≤ get_or (table_starts p rows) t 0
   starts_from t h = rw (starts-at t h) (first-from p t (records_of p) rows)
 
-  pub starts-within : (t : ℕ) → t < 26 → rows ≤ records_of p → get_or (table_starts p rows) t 0 ≤ records_of p
+  pub starts-within : (t : ℕ) → t ≤ tables → rows ≤ records_of p → get_or (table_starts p rows) t 0 ≤ records_of p
   starts-within t h l = rw (starts-at t h) (first-within p t (records_of p) rows l)
 
   -- the starts rise
-  pub starts-rise : (t u : ℕ) → t ≤ u → u < 26 → get_or (table_starts p rows) t 0 ≤ get_or (table_starts p rows) u 0
+  pub starts-rise : (t u : ℕ) → t ≤ u → u ≤ tables → get_or (table_starts p rows) t 0 ≤ get_or (table_starts p rows) u 0
   starts-rise t u l h =
-      let m : t < 26 = omega arith in
+      let m : t ≤ tables = omega arith in
       rw (starts-at t m, starts-at u h) (first-rises p t u (records_of p) rows l)
 
 -- the loop over the tables: s holds the starts of those below t, and the others are searched for from record k on
 pub record Filled (p : List ℕ) (rows : ℕ) (s : List ℕ) (t k : ℕ) : Type 0 where
-  pub sized : length s ≡ 26
+  pub sized : length s ≡ suc tables
   pub done : take t s ≡ starts_below p rows t
   pub ahead : (u : ℕ) → t ≤ u → first_reaching p u k (records_of p) ≡ table_start p rows u
 
-pub filled_none : (p : List ℕ) (rows : ℕ) (s : List ℕ) → length s ≡ 26 → Filled p rows s 0 rows
+pub filled_none : (p : List ℕ) (rows : ℕ) (s : List ℕ) → length s ≡ suc tables → Filled p rows s 0 rows
 unfolding starts_below
 filled_none p rows s e = record { sized = e; done = refl; ahead = λ u l. refl }
 
-pub filled_next : (p : List ℕ) (rows : ℕ) (s : List ℕ) (t k m : ℕ) → Filled p rows s t k → t < 26 → m ≡ first_reaching p t k (records_of p) → Filled p rows (set s t m) (t + 1) m
+pub filled_next : (p : List ℕ) (rows : ℕ) (s : List ℕ) (t k m : ℕ) → Filled p rows s t k → t < suc tables → m ≡ first_reaching p t k (records_of p) → Filled p rows (set s t m) (t + 1) m
 unfolding starts_below
 filled_next p rows s t k m f h e =
     let z = f.sized in
@@ -158,12 +158,12 @@ filled_next p rows s t k m f h e =
       ahead = λ u g. rw e (search_on p t u (records_of p) k (omega arith)) ∙ f.ahead u (omega arith);
     }
 
-pub filled_all : (p : List ℕ) (rows : ℕ) (s : List ℕ) (t k : ℕ) → Filled p rows s t k → 26 ≤ t → t ≤ 26 → s ≡ table_starts p rows
+pub filled_all : (p : List ℕ) (rows : ℕ) (s : List ℕ) (t k : ℕ) → Filled p rows s t k → suc tables ≤ t → t ≤ suc tables → s ≡ table_starts p rows
 unfolding table_starts
 filled_all p rows s t k f h l =
     let z = f.sized in
-    let e : t ≡ 26 = omega arith in
-    sym (take_all 26 s (omega arith)) ∙ (rw e at f.done)
+    let e : t ≡ suc tables = omega arith in
+    sym (take_all (suc tables) s (omega arith)) ∙ (rw e at f.done)
 
 -- an enclave's tables rise, and end inside its pack
 pub starts_rising : (p : List ℕ) (rows : ℕ) (s : List ℕ) → s ≡ table_starts p rows → IsRising s
@@ -171,6 +171,6 @@ starts_rising p rows s e t h = rw e (starts-rise p rows t (t + 1) (omega arith) 
 
 pub starts_inside : (p s : List ℕ) → s ≡ table_starts p 1 → 0 < length p → length p % 64 ≡ 0 → EndsInside p s
 starts_inside p s e h w =
-    let a = starts-within p 1 25 (omega arith) (some_record p h w) in
+    let a = starts-within p 1 tables (omega arith) (some_record p h w) in
     let b = records_inside p in
     rw e (omega arith)

@@ -2,6 +2,7 @@
 use Rattle.std.specs.Prelude.{ℕ, zero, suc, ◌+◌, Bool, not, ◌||◌, cond, List, [], ◌∷◌, ◌++◌, ltb, leb}
 use Rattle.schema.specs.Bytes.{byte_of}
 use Rattle.schema.specs.Records.{records_of}
+use Rattle.schema.specs.Tables.{tables}
 
 -- record k is table t's first in its enclave, or past it: of table t or a later one, or of another enclave, or past the pack
 abbrev pub reaches : List ℕ → ℕ → ℕ → Bool
@@ -21,6 +22,6 @@ unfoldable pub starts_below : List ℕ → ℕ → ℕ → List ℕ
 starts_below p rows zero = []
 starts_below p rows (suc k) = starts_below p rows k ++ (table_start p rows k ∷ [])
 
--- the starts of tables 0 to 24, and the enclave's end
+-- the starts of all tables, and the enclave's end
 unfoldable pub table_starts : List ℕ → ℕ → List ℕ
-table_starts p rows = starts_below p rows 26
+table_starts p rows = starts_below p rows (suc tables)

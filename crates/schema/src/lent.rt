@@ -71,7 +71,7 @@ pub fn records_of(pack: &[u8]) -> u32
 // How many tables there are, 0 to 24.
 pub const TABLES: usize = 25;
 
-// The record number of each table's first row in one enclave, and of the enclave's end: by table number, for which 26 named fields would be no plainer.
+// The record number of each table's first row in one enclave, and of the enclave's end: by table number, for which a named field each would be no plainer.
 #[derive(Clone, Copy)]
 pub struct TableStarts {
     pub firsts: [u32; TABLES + 1],

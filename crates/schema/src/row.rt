@@ -36,7 +36,7 @@ pub trait Stored: Copy {
 }
 
 // A kind of row: what its records hold, and its table. A table is a number and no enum: it is byte 0 of a record and a place among the starts, and
-// a reader finds it in the paper by that number. That it is one of the 25 is asked where it counts: `Entry` is a row for any number.
+// a reader finds it in the paper by that number. That it is one of a pack's tables is asked where it counts: `Entry` is a row for any number.
 pub trait Row: Stored {
     ghost TABLE: { ℕ };
 
