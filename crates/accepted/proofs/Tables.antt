@@ -15,11 +15,11 @@ use Rattle.accepted.specs.Tables.{NoTableTooLarge, NoTableTooLargeInLine, Length
 
 module _ (p : List ℕ) where
   -- a table starts at record 1 or later, and at 65,536 at the latest
-  start_none : (t : ℕ) → t < 26 → records_of p ≡ 0 → start_of (table_starts p 1) t ≡ 1
+  start_none : (t : ℕ) → t ≤ tables → records_of p ≡ 0 → start_of (table_starts p 1) t ≡ 1
   unfolding first_reaching
   start_none t l e = starts-at p 1 t l ∙ rw e
 
-  start_few : (t : ℕ) → t < 26 → start_of (table_starts p 1) t ≤ 65536
+  start_few : (t : ℕ) → t ≤ tables → start_of (table_starts p 1) t ≤ 65536
   start_few t l =
       let f = records_few p in
       elim (dec_le 1 (records_of p)) [
@@ -29,7 +29,7 @@ module _ (p : List ℕ) where
 
   rows_few : (t : ℕ) → rows_of (table_starts p 1) t < 65536
   rows_few t =
-      elim (dec_le 25 t) [
+      elim (dec_le tables t) [
         | yes g ↦ (let e = starts_length p 1 in let z = get_or_past (table_starts p 1) (t + 1) 0 (omega arith) in omega arith)
         | no g ↦ (let a = starts_from p 1 t (omega arith) in let b = start_few (t + 1) (omega arith) in omega arith)
       ]

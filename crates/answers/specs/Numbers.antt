@@ -1,11 +1,11 @@
--- Document 01's number and values of each refusal, in its order. Assumes nothing.
+-- Document 01's number and values of each refusal, in its order, and then those of document 02. Assumes nothing.
 use Rattle.std.specs.Prelude.{ℕ, Bool, cond, List, [], ◌∷◌}
 use Rattle.identity.specs.declared.IdentityPlace.{IdentityPlace}
 use Rattle.schema.specs.Records.{direction_number}
 use Rattle.answers.specs.declared.field.RowField.{RowField}
 use Rattle.answers.specs.declared.id.StableId.{StableId}
 use Rattle.answers.specs.declared.Refusal.{Refusal}
-use Rattle.answers.specs.declared.Refusal.TheVariants.{Length, TextTooLong, TableOutOfPlace, StrayByte, IdentityOutside, NotUtf8, ReferenceOutOfBounds, RangeOutOfBounds, RangesNotMonotonic, EntriesNotSorted, DuplicateEntry, OwnershipMismatch, ScopeParentCycle, InvalidStableId, StableIdsNotSorted, DuplicateStableId, InvalidBankInfo, StorageBoundExceeded, BindingKindMismatch, BindingPresenceMismatch, DuplicateRouteHalf, RoutePairMismatch}
+use Rattle.answers.specs.declared.Refusal.TheVariants.{Length, TextTooLong, TableOutOfPlace, StrayByte, IdentityOutside, NotUtf8, ReferenceOutOfBounds, RangeOutOfBounds, RangesNotMonotonic, EntriesNotSorted, DuplicateEntry, OwnershipMismatch, ScopeParentCycle, InvalidStableId, StableIdsNotSorted, DuplicateStableId, InvalidBankInfo, StorageBoundExceeded, BindingKindMismatch, BindingPresenceMismatch, DuplicateRouteHalf, RoutePairMismatch, ZeroDeadline}
 use Rattle.answers.specs.Fields.{field_number, kind_number}
 
 abbrev pub bit : Bool → ℕ
@@ -45,3 +45,4 @@ numbers (BindingKindMismatch at) = 24 ∷ located at []
 numbers (BindingPresenceMismatch at) = 25 ∷ located at []
 numbers (DuplicateRouteHalf boundary direction) = 27 ∷ placed boundary (direction_number direction ∷ [])
 numbers (RoutePairMismatch boundary field) = 28 ∷ placed boundary (field_number field ∷ [])
+numbers (ZeroDeadline index) = 39 ∷ index ∷ []

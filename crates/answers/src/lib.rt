@@ -17,7 +17,7 @@ use std::error::Error;
 use std::fmt;
 
 // One variant for each refusal of document 01 that a pack can have (all but 11), named as the Rust names it, with its values one by one as the Rust has
-// them; 1 to 6 are the packing rules'.
+// them, and then those of document 02, in their order; 1 to 6 are the packing rules'.
 // Which text is too long is shown by the bit that tells an identity's text, 0 for the batch and 1 for the house.
 #[derive(Clone, Copy, Debug)]
 pub enum Refusal {
@@ -101,6 +101,9 @@ pub enum Refusal {
     RoutePairMismatch {
         boundary: IdentityPlace,
         field: Field,
+    },
+    ZeroDeadline {
+        index: u32,
     },
 }
 
@@ -214,6 +217,7 @@ impl Refusal {
             Refusal::RoutePairMismatch { boundary, field } => {
                 with_boundary(28, boundary, u8::from(field))
             }
+            Refusal::ZeroDeadline { index } => listed(&[39, u64::from(index)]),
         }
     }
 }

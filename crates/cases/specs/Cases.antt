@@ -10,7 +10,7 @@ use Rattle.answers.specs.Checks.{first, run}
 use Rattle.schema.specs.Number.{number}
 use Rattle.schema.specs.Records.{count_below}
 use Rattle.schema.specs.Layout.{layouts}
-use Rattle.schema.specs.Rows.{federate_at, enclave_at, reactor_at, action_at, port_at, reaction_at, mode_at, scope_at, index_at, level_at, startup_at, lifecycle_at, route_at, binding_at}
+use Rattle.schema.specs.Rows.{federate_at, enclave_at, reactor_at, action_at, port_at, reaction_at, mode_at, scope_at, index_at, level_at, startup_at, lifecycle_at, route_at, binding_at, deadline_at}
 use Rattle.packing.specs.declared.PackKind.{PackKind}
 use Rattle.packing.specs.declared.PackKind.TheVariants.{Enclave, Federate}
 use Rattle.packing.specs.Clean.{zeros, clean}
@@ -30,6 +30,7 @@ use Rattle.scope_checks.specs.Scopes.{parent_checks, scope_mode_checks, scope_ow
 use Rattle.scope_checks.specs.Links.{followed, links_below, cycle_checks}
 use Rattle.list_checks.specs.ListTables.{named_checks, trigger_checks, listed_entry_checks, index_checks, startup_checks, action_trigger_checks, port_trigger_checks, enabled_mode_checks, enabled_modes_checks, scope_list_checks, level_entry_checks, lifecycle_entry_checks, index_order_checks, shutdown_action_checks}
 use Rattle.list_checks.specs.Routes.{route_order_checks, route_row, route_checks, binding_id_row, binding_id_checks}
+use Rattle.list_checks.specs.Deadlines.{deadline_checks}
 use Rattle.enclave.specs.Passes.{head_passes, table_passes, row_passes, scope_passes, reaction_list_passes, scope_list_passes, entry_passes, enclave_list_passes, list_passes, passes, pass_checks, checks_of, enclave_checks}
 use Rattle.enclave.specs.Answer.{image_answer, enclave_answer}
 use Rattle.federate.specs.Records.{enclave_before, enclave_from}
@@ -138,13 +139,13 @@ pub cases-hold : T (every cases)
 unfolding every same_list cases bytes padded enclave_answer image_answer first run numbers packing_checks record_checks identity_checks clean zeros
     layouts number first_reaching starts_below table_starts allowed scalar_at decode_after valid_scalars control white_space compared checked_end
     saturating_end contains enclave_at reactor_at action_at port_at reaction_at mode_at scope_at index_at level_at startup_at lifecycle_at route_at
-    binding_at enclave_checks checks_of pass_checks passes head_passes table_passes row_passes scope_passes reaction_list_passes scope_list_passes
+    binding_at deadline_at enclave_checks checks_of pass_checks passes head_passes table_passes row_passes scope_passes reaction_list_passes scope_list_passes
     entry_passes enclave_list_passes list_passes span_checks listed_checks range_of_checks binding_checks slot_checks
     root_scope_checks initial_mode_checks bank_checks reactor_row reactor_checks action_binding_checks action_row action_checks port_row port_checks
     effect_checks reaction_owner_checks reaction_ends_before reactions.reaction_range_checks reaction_row reaction_checks mode_owner_checks mode_row
     mode_checks parent_checks scope_mode_checks scope_owner_checks ends_before member_range_checks reaction_range_checks scope_row_checks scope_checks
     followed links_below cycle_checks named_checks trigger_checks listed_entry_checks index_checks startup_checks action_trigger_checks port_trigger_checks enabled_mode_checks enabled_modes_checks
     scope_list_checks level_entry_checks lifecycle_entry_checks index_order_checks shutdown_action_checks route_order_checks route_row route_checks
-    binding_id_row binding_id_checks federate_at federate_answer packed_answer metadata_checks federate_checks count_below enclave_before enclave_from
+    binding_id_row binding_id_checks deadline_checks federate_at federate_answer packed_answer metadata_checks federate_checks count_below enclave_before enclave_from
     enclaves.record_checks enclaves.links_before route_record_checks
 cases-hold = tt

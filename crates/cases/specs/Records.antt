@@ -1,4 +1,4 @@
--- The record of a row: table, bits, kind and fields in document 01's order. Assumes nothing.
+-- The record of a row: table, bits, kind and fields in the papers' order. Assumes nothing.
 use Rattle.std.specs.Prelude.{ℕ, false, List, ◌++◌, is_some, unwrap_or}
 use Rattle.std.specs.Option.{option_map_or}
 use Rattle.identity.specs.declared.IdentityPlace.{IdentityPlace}
@@ -15,6 +15,7 @@ use Rattle.schema.specs.declared.rows.ModeImage.{ModeImage}
 use Rattle.schema.specs.declared.rows.ScopeImage.{ScopeImage}
 use Rattle.schema.specs.declared.rows.RouteImage.{RouteImage}
 use Rattle.schema.specs.declared.rows.RequiredBindingImage.{RequiredBindingImage}
+use Rattle.schema.specs.declared.rows.DeadlineImage.{DeadlineImage}
 use Rattle.schema.specs.declared.entries.LevelReactionImage.{LevelReactionImage}
 use Rattle.cases.specs.Packs.{W, D, rec}
 use Rattle.cases.specs.Fields.{bits, three_bits, timing_kind, has_period, timing_nanos, transition_kind, physical, outbound, binding_kind}
@@ -108,3 +109,6 @@ route_record row =
 
 abbrev pub binding_record : RequiredBindingImage → List ℕ
 binding_record row = rec 24 (bits row.id.house false) (binding_kind row.kind) (place row.id)
+
+abbrev pub deadline_record : DeadlineImage → List ℕ
+deadline_record row = rec 25 0 0 (W row.reaction.0 ++ D row.nanos)

@@ -2,7 +2,7 @@
 ghost use Rattle.std.specs.Prelude.{◌≡◌, ◌+◌, ◌*◌, ◌≤◌, ◌↔◌, ◌++◌, ℕ, List, length, flat_map, IsOk, OnOk, OnErr};
 ghost use Rattle.arrayvec.specs.ArrayVec.{array_vec_len};
 ghost use Rattle.cases.specs.Fields.{timing_kind, has_period, timing_nanos};
-ghost use Rattle.cases.specs.Records.{federate_record, enclave_record, reactor_record, action_record, port_record, reaction_record, mode_record, scope_record, trigger_record, route_record, binding_record};
+ghost use Rattle.cases.specs.Records.{federate_record, enclave_record, reactor_record, action_record, port_record, reaction_record, mode_record, scope_record, trigger_record, route_record, binding_record, deadline_record};
 
 use crate::builder::{RecordBuilder, bits, three_bits};
 use arrayvec::{ArrayVec, CapacityError};
@@ -10,8 +10,8 @@ use schema::entries::ReactionTrigger;
 use schema::index::{ActionTiming, BankInfoImage, RouteDirection, TimingDomain};
 use schema::row::Row;
 use schema::rows::{
-    ActionImage, EnclaveImage, FederateImage, ModeImage, PortImage, ReactionImage, ReactorImage,
-    RequiredBindingImage, RouteImage, ScopeImage,
+    ActionImage, DeadlineImage, EnclaveImage, FederateImage, ModeImage, PortImage, ReactionImage,
+    ReactorImage, RequiredBindingImage, RouteImage, ScopeImage,
 };
 
 // A record of a pack.
@@ -187,6 +187,17 @@ impl Recorded for RequiredBindingImage {
     fn record(self) -> RecordBytes {
         RecordBuilder::new(Self::TABLE, bits(self.id.house, false), self.kind as u8)
             .place(self.id)
+            .build()
+    }
+}
+
+impl Recorded for DeadlineImage {
+    ghost bytes = { deadline_record };
+
+    fn record(self) -> RecordBytes {
+        RecordBuilder::new(Self::TABLE, 0, 0)
+            .word(self.reaction.0)
+            .long(self.nanos)
             .build()
     }
 }

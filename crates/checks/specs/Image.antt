@@ -1,5 +1,5 @@
 -- The image of an enclave: what its check looks at, and no more. Assumes nothing.
-use Rattle.std.specs.Prelude.{ℕ, ◌+◌, Bool, true, false, List, Option, option_map}
+use Rattle.std.specs.Prelude.{ℕ, ◌+◌, Bool, true, false, List, eqb, Option, option_map}
 use Rattle.identity.specs.declared.IdentityPlace.{IdentityPlace}
 use Rattle.identity.specs.Text.{identity_text}
 use Rattle.range.specs.declared.SliceRange.{SliceRange}
@@ -17,11 +17,12 @@ use Rattle.schema.specs.declared.rows.ModeImage.{ModeImage}
 use Rattle.schema.specs.declared.rows.ScopeImage.{ScopeImage}
 use Rattle.schema.specs.declared.rows.RouteImage.{RouteImage}
 use Rattle.schema.specs.declared.rows.RequiredBindingImage.{RequiredBindingImage}
+use Rattle.schema.specs.declared.rows.DeadlineImage.{DeadlineImage}
 use Rattle.schema.specs.declared.entries.LevelReactionImage.{LevelReactionImage}
 use Rattle.schema.specs.declared.entries.LifecycleReactionImage.{LifecycleReactionImage}
 use Rattle.schema.specs.declared.lent.Enclave.{Enclave}
 use Rattle.schema.specs.Tables.{start_of, rows_of}
-use Rattle.schema.specs.Rows.{enclave_at, reactor_at, action_at, port_at, reaction_at, mode_at, scope_at, index_at, level_at, startup_at, lifecycle_at, route_at, binding_at}
+use Rattle.schema.specs.Rows.{enclave_at, reactor_at, action_at, port_at, reaction_at, mode_at, scope_at, index_at, level_at, startup_at, lifecycle_at, route_at, binding_at, deadline_at}
 
 -- an action without its delay, domain and period
 pub record ActionPart : Type 0 where
@@ -84,6 +85,14 @@ pub record RoutePart : Type 0 where
 abbrev pub route_part : RouteImage → RoutePart
 route_part r = record { boundary = r.boundary; port = r.local_port.0; direction = r.direction }
 
+-- a deadline without its nanoseconds, but for whether they are zero
+pub record DeadlinePart : Type 0 where
+  pub reaction : ℕ
+  pub is_zero : Bool
+
+abbrev pub deadline_part : DeadlineImage → DeadlinePart
+deadline_part d = record { reaction = d.reaction.0; is_zero = eqb d.nanos 0 }
+
 -- how many rows each table has; the rows, by their index, and those of a list table by table and index;
 -- the text that an identity names; the two slot bounds
 pub record Image : Type 0 where
@@ -100,6 +109,7 @@ pub record Image : Type 0 where
   pub lifecycles : ℕ → ℕ → LifecycleReactionImage
   pub routes : ℕ → RoutePart
   pub bindings : ℕ → RequiredBindingImage
+  pub deadlines : ℕ → DeadlinePart
   pub enclave_id : IdentityPlace
   pub text : IdentityPlace → List ℕ
   pub state_slots : ℕ
@@ -145,6 +155,7 @@ image p batch house s n =
       lifecycles = lifecycles_at p s;
       routes = λ i. route_part (route_at p (start_of s 23 + i));
       bindings = bindings_at p s;
+      deadlines = λ i. deadline_part (deadline_at p (start_of s 25 + i));
       enclave_id = (enclave_at p n).enclave_id;
       text = λ id. identity_text batch house id;
       state_slots = (enclave_at p n).storage_bounds.state_slots;

@@ -22,6 +22,7 @@ use Rattle.scope_checks.specs.Scopes.{scope_checks}
 use Rattle.scope_checks.specs.Links.{cycle_checks, links}
 use Rattle.list_checks.specs.ListTables.{index_checks, startup_checks, action_trigger_checks, port_trigger_checks, enabled_modes_checks, scope_list_checks, level_entry_checks, lifecycle_entry_checks, shutdown_reaction_checks, shutdown_action_checks}
 use Rattle.list_checks.specs.Routes.{route_checks, binding_id_checks}
+use Rattle.list_checks.specs.Deadlines.{deadline_checks}
 use Rattle.enclave.specs.Passes.{Pass, times, root_checks, enclave_id_checks, passes, pass_checks, checks_of, enclave_checks}
 use Rattle.enclave.specs.Answer.{unless, image_answer, pack_image, enclave_answer}
 use Rattle.enclave.proofs.Opened.{the_passes}
@@ -70,6 +71,7 @@ pub record EachPasses (m : Image) : Type 0 where
   pub shutdown_action : (i : ℕ) → i < m.rows 22 → Passes (shutdown_action_checks m i)
   pub route : (i : ℕ) → i < m.rows 23 → Passes (route_checks m i)
   pub binding_id : (i : ℕ) → i < m.rows 24 → Passes (binding_id_checks m i)
+  pub deadline : (i : ℕ) → i < m.rows 25 → Passes (deadline_checks m i)
 
 pub each : (m : Image) → first (enclave_checks m) ≡ passed → EachPasses m
 unfolding enclave_checks the_passes
@@ -106,6 +108,7 @@ each m e =
       shutdown_action = pass 27 (omega arith);
       route = pass 28 (omega arith);
       binding_id = pass 29 (omega arith);
+      deadline = pass 30 (omega arith);
     }
 
 -- an answer that begins with 0 is no refusal's

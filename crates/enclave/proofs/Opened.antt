@@ -13,6 +13,7 @@ use Rattle.scope_checks.specs.Scopes.{scope_owner_checks, scope_row_checks, scop
 use Rattle.scope_checks.specs.Links.{cycle_checks}
 use Rattle.list_checks.specs.ListTables.{named_checks, index_checks, startup_checks, trigger_checks, action_trigger_checks, port_trigger_checks, enabled_mode_checks, enabled_modes_checks, scope_list_checks, listed_entry_checks, level_entry_checks, lifecycle_entry_checks, index_order_checks, shutdown_action_checks}
 use Rattle.list_checks.specs.Routes.{route_order_checks, route_row, route_checks, binding_id_row, binding_id_checks}
+use Rattle.list_checks.specs.Deadlines.{deadline_checks}
 use Rattle.enclave.specs.Passes.{head_passes, table_passes, row_passes, scope_passes, reaction_list_passes, scope_list_passes, entry_passes, enclave_list_passes, list_passes, passes}
 
 -- the whole order
@@ -38,7 +39,7 @@ unfolding
     action_trigger_checks port_trigger_checks trigger_checks range_of_checks listed_checks
     enabled_modes_checks enabled_mode_checks scope_list_checks
     level_entry_checks lifecycle_entry_checks listed_entry_checks shutdown_action_checks
-    route_checks binding_id_checks
+    route_checks binding_id_checks deadline_checks
 the_lists = tt
 
 -- the lists that a row's or an entry's checks are made of, but for those of optional fields

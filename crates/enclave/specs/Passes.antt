@@ -1,4 +1,4 @@
--- The passes of `validate_enclave_const` in their order, each with its items' checks. Assumes nothing.
+-- The passes of `validate_enclave_const` in their order, and after them that over deadlines, each with its items' checks. Assumes nothing.
 use Rattle.std.specs.Prelude.{ℕ, List, [], ◌∷◌, ◌++◌}
 use Rattle.answers.specs.declared.field.Field.TheVariants as field
 use Rattle.answers.specs.declared.id.IdKind.TheVariants as kind
@@ -15,6 +15,7 @@ use Rattle.scope_checks.specs.Scopes.{scope_checks}
 use Rattle.scope_checks.specs.Links.{cycle_checks}
 use Rattle.list_checks.specs.ListTables.{index_checks, startup_checks, action_trigger_checks, port_trigger_checks, enabled_modes_checks, scope_list_checks, level_entry_checks, lifecycle_entry_checks, shutdown_reaction_checks, shutdown_action_checks}
 use Rattle.list_checks.specs.Routes.{route_checks, binding_id_checks}
+use Rattle.list_checks.specs.Deadlines.{deadline_checks}
 
 -- a pass: how many items it has, and each item's checks
 pub record Pass : Type 0 where
@@ -86,7 +87,7 @@ entry_passes =
     ∷ over 18 (lifecycle_entry_checks 18)
     ∷ []
 
--- the lists of the enclave itself, routes and bindings
+-- the lists of the enclave itself, routes, bindings and deadlines
 unfoldable pub enclave_list_passes : List Pass
 enclave_list_passes =
     over 19 (startup_checks 19)
@@ -95,6 +96,7 @@ enclave_list_passes =
     ∷ over 22 shutdown_action_checks
     ∷ over 23 route_checks
     ∷ over 24 binding_id_checks
+    ∷ over 25 deadline_checks
     ∷ []
 
 -- the passes after parent cycles

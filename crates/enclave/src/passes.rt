@@ -7,6 +7,7 @@ ghost use Rattle.enclave.specs.Passes.{root_checks, enclave_id_checks, head_pass
 use answers::{Field, IdKind, Refusal, RowField, StableId};
 use checks::identities::validate_id;
 use checks::refs::check_exists;
+use list_checks::deadlines::check_deadlines;
 use list_checks::level_lists::{
     check_level_entries, check_lifecycle_entries, check_lists_of_scopes, check_shutdown_reactions,
     check_triggers_of_actions, check_triggers_of_ports,
@@ -121,7 +122,7 @@ fn check_entries(e: &Enclave) -> Result<(), Refusal>
     check_lifecycle_entries::<ScopeShutdownReaction>(e)
 }
 
-// The lists of the enclave itself, routes and bindings.
+// The lists of the enclave itself, routes, bindings and deadlines.
 #[tactic(auto, using(answers::proofs::Laws::list_laws), unfolding(answers::specs::Checks::first, crate::specs::Passes::checks_of, crate::specs::Passes::pass_checks, crate::specs::Passes::enclave_list_passes))]
 fn check_enclave_lists(e: &Enclave) -> Result<(), Refusal>
     ensures { result ≡ first (checks_of (image_of e.now) enclave_list_passes) }
@@ -131,7 +132,8 @@ fn check_enclave_lists(e: &Enclave) -> Result<(), Refusal>
     check_shutdown_reactions(e)?;
     check_shutdown_actions(e)?;
     check_routes(e)?;
-    check_binding_ids(e)
+    check_binding_ids(e)?;
+    check_deadlines(e)
 }
 
 // The passes after parent cycles.

@@ -11,13 +11,13 @@ use Rattle.identity.specs.Text.{identity_text}
 use Rattle.schema.specs.Layout as layout
 use Rattle.schema.specs.Layout.{Layout}
 use Rattle.schema.specs.Bytes.{byte_of}
-use Rattle.schema.specs.Rows.{row, reactor_of, action_of, port_of, reaction_of, mode_of, scope_of, index_of, level_of, startup_of, lifecycle_of, route_of, binding_of, enclave_at, reactor_at, action_at, port_at, reaction_at, mode_at, scope_at, index_at, level_at, startup_at, lifecycle_at, route_at, binding_at}
+use Rattle.schema.specs.Rows.{row, reactor_of, action_of, port_of, reaction_of, mode_of, scope_of, index_of, level_of, startup_of, lifecycle_of, route_of, binding_of, deadline_of, enclave_at, reactor_at, action_at, port_at, reaction_at, mode_at, scope_at, index_at, level_at, startup_at, lifecycle_at, route_at, binding_at, deadline_at}
 use Rattle.packing.specs.Shape.{used}
 use Rattle.schema.specs.Records.{records_of}
 use Rattle.schema.specs.Tables.{tables, start_of, rows_of}
 use Rattle.packing.specs.Starts.{first_reaching, starts_below, table_starts}
 use Rattle.packing.proofs.TableStarts.{starts_from}
-use Rattle.checks.specs.Image.{Image, image, action_part, reaction_part, route_part}
+use Rattle.checks.specs.Image.{Image, image, action_part, reaction_part, route_part, deadline_part}
 use Rattle.larger_bounds.specs.Images.{with_bounds}
 use Rattle.larger_bounds.specs.Packs.{DifferInStorage, state_bound, action_bound}
 use Rattle.larger_bounds.proofs.RowBytes.{number_same, row_same}
@@ -43,6 +43,7 @@ in_tables m =
       lifecycles = λ t. m.lifecycles (table_in t);
       routes = m.routes;
       bindings = m.bindings;
+      deadlines = m.deadlines;
       enclave_id = m.enclave_id;
       text = m.text;
       state_slots = m.state_slots;
@@ -108,7 +109,7 @@ module _ (p q : List ℕ) (d : DifferInStorage p q) where
 
     pub image-same :
         in_tables (image q batch house (table_starts p 1) 0) ≡ with_bounds (in_tables (image p batch house (table_starts p 1) 0)) (state_bound q 0) (action_bound q 0)
-    unfolding reactor_at action_at port_at reaction_at mode_at scope_at index_at level_at startup_at lifecycle_at route_at binding_at
+    unfolding reactor_at action_at port_at reaction_at mode_at scope_at index_at level_at startup_at lifecycle_at route_at binding_at deadline_at
     image-same e =
         record {
           rows = rows_of (table_starts p 1);
@@ -124,6 +125,7 @@ module _ (p q : List ℕ) (d : DifferInStorage p q) where
           lifecycles = λ t i. rows_same lifecycle_of layout.lifecycles (omega arith) _ (table-start t i) e;
           routes = λ i. route_part (rows_same route_of layout.routes (omega arith) _ (table-start 23 i) e);
           bindings = λ i. rows_same binding_of layout.bindings (omega arith) _ (table-start 24 i) e;
+          deadlines = λ i. deadline_part (rows_same deadline_of layout.deadlines (omega arith) _ (table-start 25 i) e);
           enclave_id = identity-same 0 e;
           text = λ id. identity_text batch house id;
           state_slots = state_bound q 0;

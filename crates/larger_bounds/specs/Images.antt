@@ -23,6 +23,7 @@ with_bounds m state action =
       lifecycles = m.lifecycles;
       routes = m.routes;
       bindings = m.bindings;
+      deadlines = m.deadlines;
       enclave_id = m.enclave_id;
       text = m.text;
       state_slots = state;

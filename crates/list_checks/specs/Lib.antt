@@ -1,2 +1,3 @@
 pub mod ListTables
 pub mod Routes
+pub mod Deadlines

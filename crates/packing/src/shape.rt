@@ -75,7 +75,7 @@ const REACTIONS: Shape = Shape {
     ..NO_FIELDS
 };
 
-// Modes have a constant of their own beside levels' equal one, startups beside lifecycles': document 01 has a layout for each table.
+// Modes have a constant of their own beside levels' equal one, and deadlines and startups beside lifecycles': the papers have a layout for each table.
 const MODES: Shape = Shape {
     used: 12,
     ..NO_FIELDS
@@ -125,11 +125,16 @@ const BINDINGS: Shape = Shape {
     ..NO_FIELDS
 };
 
+const DEADLINES: Shape = Shape {
+    used: 16,
+    ..NO_FIELDS
+};
+
 // Table by table, from 0 on: data in an array, since a table is a number.
 static SHAPES: [Shape; TABLES] = [
     FEDERATE, ENCLAVE, REACTORS, ACTIONS, PORTS, REACTIONS, MODES, SCOPES, LEVELS, INDEXES,
     INDEXES, INDEXES, INDEXES, INDEXES, INDEXES, STARTUPS, LEVELS, LIFECYCLES, LIFECYCLES,
-    STARTUPS, STARTUPS, LIFECYCLES, INDEXES, ROUTES, BINDINGS,
+    STARTUPS, STARTUPS, LIFECYCLES, INDEXES, ROUTES, BINDINGS, DEADLINES,
 ];
 
 // The shape of a table; past the last table no field is used.

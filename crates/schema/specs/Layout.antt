@@ -1,4 +1,4 @@
--- How the record of each table is laid out: document 01, "The pack", table by table. Assumes nothing.
+-- How the record of each table is laid out, table by table: document 01, "The pack", and table 25 document 02, Wish 12. Assumes nothing.
 use Rattle.std.specs.Prelude.{ℕ, zero, suc, ◌+◌, List, [], ◌∷◌, get_or}
 
 -- a field: a W, a D, or a W whose presence bit is bit k of byte 1
@@ -81,13 +81,17 @@ routes = layout 1 3 1 (W ∷ W ∷ W ∷ D ∷ [])
 abbrev pub bindings : Layout
 bindings = layout 1 3 1 (W ∷ W ∷ [])
 
--- the layouts of tables 0 to 24
+-- 25: reaction; nanoseconds
+abbrev pub deadlines : Layout
+deadlines = plain (W ∷ D ∷ [])
+
+-- the layouts of tables 0 to 25
 unfoldable pub layouts : List Layout
 layouts =
     federate ∷ enclave ∷ reactors ∷ actions ∷ ports ∷ reactions ∷ modes ∷ scopes
     ∷ levels ∷ indexes ∷ indexes ∷ indexes ∷ indexes ∷ indexes ∷ indexes ∷ startups
     ∷ levels ∷ lifecycles ∷ lifecycles ∷ startups ∷ startups ∷ lifecycles ∷ indexes
-    ∷ routes ∷ bindings ∷ []
+    ∷ routes ∷ bindings ∷ deadlines ∷ []
 
 -- where field k starts in its record: fields follow from byte 4 without gaps
 abbrev pub offset_from : ℕ → List Field → ℕ → ℕ

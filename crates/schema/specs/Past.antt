@@ -8,7 +8,7 @@ use Rattle.schema.specs.Number.{number}
 use Rattle.schema.specs.Layout.{Layout, bytes, offset, field_at}
 use Rattle.schema.specs.Layout as layout
 use Rattle.schema.specs.RowLaws.{PastIs}
-use Rattle.schema.specs.Rows.{row, empty, federate_of, federate_at, enclave_of, enclave_at, reactor_of, reactor_at, action_of, action_at, port_of, port_at, reaction_of, reaction_at, mode_of, mode_at, scope_of, scope_at, route_of, route_at, binding_of, binding_at, level_of, level_at, startup_of, startup_at, lifecycle_of, lifecycle_at, index_of, index_at}
+use Rattle.schema.specs.Rows.{row, empty, federate_of, federate_at, enclave_of, enclave_at, reactor_of, reactor_at, action_of, action_at, port_of, port_at, reaction_of, reaction_at, mode_of, mode_at, scope_of, scope_at, route_of, route_at, binding_of, binding_at, deadline_of, deadline_at, level_of, level_at, startup_of, startup_at, lifecycle_of, lifecycle_at, index_of, index_at}
 
 pub byte_past : (p : List ℕ) (o : ℕ) → length p ≤ o → get_or p o 0 ≡ 0
 byte_past p o h = get_or-eq_default p 0 h
@@ -66,6 +66,10 @@ route_past = row_past route_of layout.routes
 pub binding_past : PastIs binding_at (empty binding_of)
 unfolding binding_at
 binding_past = row_past binding_of layout.bindings
+
+pub deadline_past : PastIs deadline_at (empty deadline_of)
+unfolding deadline_at
+deadline_past = row_past deadline_of layout.deadlines
 
 pub index_past : PastIs index_at (empty index_of)
 unfolding index_at

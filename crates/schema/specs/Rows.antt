@@ -24,6 +24,7 @@ use Rattle.schema.specs.declared.rows.ModeImage.{ModeImage}
 use Rattle.schema.specs.declared.rows.ScopeImage.{ScopeImage}
 use Rattle.schema.specs.declared.rows.RouteImage.{RouteImage}
 use Rattle.schema.specs.declared.rows.RequiredBindingImage.{RequiredBindingImage}
+use Rattle.schema.specs.declared.rows.DeadlineImage.{DeadlineImage}
 use Rattle.schema.specs.declared.entries.LevelReactionImage.{LevelReactionImage}
 use Rattle.schema.specs.declared.entries.TimerStartupImage.{TimerStartupImage}
 use Rattle.schema.specs.declared.entries.LifecycleReactionImage.{LifecycleReactionImage}
@@ -213,6 +214,14 @@ binding_of f b k =
       kind = kind_of k;
     }
 
+-- table 25
+abbrev pub deadline_of : (ℕ → ℕ) → ℕ → ℕ → DeadlineImage
+deadline_of f b k =
+    record {
+      reaction = record { 0 = f 0 };
+      nanos = f 1;
+    }
+
 -- record n of the pack p, as a row of the given layout
 abbrev pub row : {A : Type 0} → ((ℕ → ℕ) → ℕ → ℕ → A) → Layout → List ℕ → ℕ → A
 row of l p n = of (field p n l) (byte_of p n 1) (byte_of p n 2)
@@ -262,3 +271,6 @@ route_at p n = row route_of layout.routes p n
 
 unfoldable pub binding_at : List ℕ → ℕ → RequiredBindingImage
 binding_at p n = row binding_of layout.bindings p n
+
+unfoldable pub deadline_at : List ℕ → ℕ → DeadlineImage
+deadline_at p n = row deadline_of layout.deadlines p n

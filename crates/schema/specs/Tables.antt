@@ -1,9 +1,9 @@
 -- Where each table of an enclave begins in its pack. Assumes nothing.
 use Rattle.std.specs.Prelude.{ℕ, ◌+◌, ◌-◌, ◌/◌, ◌<◌, ◌≤◌, List, get_or, length}
 
--- how many tables there are: 0 to 24
+-- how many tables there are: 0 to 25
 abbrev pub tables : ℕ
-tables = 25
+tables = 26
 
 -- s holds the record number of each table's first row, and of the enclave's end; table t has the rows up to the next table's first
 abbrev pub start_of : List ℕ → ℕ → ℕ

@@ -68,8 +68,8 @@ pub fn records_of(pack: &[u8]) -> u32
     (pack.len() / 64).min(PACK_LIMIT / 64) as u32
 }
 
-// How many tables there are, 0 to 24.
-pub const TABLES: usize = 25;
+// How many tables there are, 0 to 25.
+pub const TABLES: usize = 26;
 
 // The record number of each table's first row in one enclave, and of the enclave's end: by table number, for which a named field each would be no plainer.
 #[derive(Clone, Copy)]

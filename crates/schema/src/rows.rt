@@ -1,13 +1,13 @@
-// The rows of tables 0 to 7, 23 and 24: each with its table number, its empty row, and its reader.
-#![tactic(auto, unfolding(crate::specs::Rows::federate_at, crate::specs::Rows::enclave_at, crate::specs::Rows::reactor_at, crate::specs::Rows::action_at, crate::specs::Rows::port_at, crate::specs::Rows::reaction_at, crate::specs::Rows::mode_at, crate::specs::Rows::scope_at, crate::specs::Rows::route_at, crate::specs::Rows::binding_at))]
+// The rows of tables 0 to 7 and 23 to 25: each with its table number, its empty row, and its reader.
+#![tactic(auto, unfolding(crate::specs::Rows::federate_at, crate::specs::Rows::enclave_at, crate::specs::Rows::reactor_at, crate::specs::Rows::action_at, crate::specs::Rows::port_at, crate::specs::Rows::reaction_at, crate::specs::Rows::mode_at, crate::specs::Rows::scope_at, crate::specs::Rows::route_at, crate::specs::Rows::binding_at, crate::specs::Rows::deadline_at))]
 
 ghost use Rattle.std.specs.Prelude.{◌≡◌};
-ghost use Rattle.schema.specs.Rows.{empty, federate_of, federate_at, enclave_of, enclave_at, reactor_of, reactor_at, action_of, action_at, port_of, port_at, reaction_of, reaction_at, mode_of, mode_at, scope_of, scope_at, route_of, route_at, binding_of, binding_at};
-ghost use Rattle.schema.specs.Past.{federate_past, enclave_past, reactor_past, action_past, port_past, reaction_past, mode_past, scope_past, route_past, binding_past};
+ghost use Rattle.schema.specs.Rows.{empty, federate_of, federate_at, enclave_of, enclave_at, reactor_of, reactor_at, action_of, action_at, port_of, port_at, reaction_of, reaction_at, mode_of, mode_at, scope_of, scope_at, route_of, route_at, binding_of, binding_at, deadline_of, deadline_at};
+ghost use Rattle.schema.specs.Past.{federate_past, enclave_past, reactor_past, action_past, port_past, reaction_past, mode_past, scope_past, route_past, binding_past, deadline_past};
 
 use crate::index::{
     ActionTiming, BankInfoImage, BindingKind, BindingSlotIndex, ModeEffect, ModeIndex, PortIndex,
-    ReactorIndex, RouteDirection, ScopeIndex, TimingDomain, Transition,
+    ReactionIndex, ReactorIndex, RouteDirection, ScopeIndex, TimingDomain, Transition,
 };
 use crate::record::{Record, has_bit};
 use crate::row::{Row, Stored};
@@ -111,6 +111,13 @@ pub struct RouteImage {
 pub struct RequiredBindingImage {
     pub id: IdentityPlace,
     pub kind: BindingKind,
+}
+
+// The deadline of a reaction.
+#[derive(Clone, Copy, Default)]
+pub struct DeadlineImage {
+    pub reaction: ReactionIndex,
+    pub nanos: u64,
 }
 
 // Each row's reader beside its table, one block for each type: no macro may write them, and each has its own fields.
@@ -414,4 +421,29 @@ impl Row for RequiredBindingImage {
     ghost TABLE = { 24 };
 
     const TABLE: u8 = 24;
+}
+
+impl Stored for DeadlineImage {
+    ghost at = { deadline_at };
+
+    ghost zeros = { empty deadline_of };
+
+    ghost past = { deadline_past };
+
+    fn empty() -> Self {
+        Self::default()
+    }
+
+    fn of(from: Record) -> Self {
+        DeadlineImage {
+            reaction: ReactionIndex::new(from.word(4)),
+            nanos: from.long(8),
+        }
+    }
+}
+
+impl Row for DeadlineImage {
+    ghost TABLE = { 25 };
+
+    const TABLE: u8 = 25;
 }
