@@ -1,5 +1,5 @@
 // The cases of a station.
-use crate::parts::{one_half, s, s_of, two_halves, two_scopes, uncovered_trigger};
+use crate::parts::{one_half, s, s_of, two_deadlines, two_halves, two_scopes, uncovered_trigger};
 use crate::rows;
 use crate::show::{show_enclave, show_enclave_bytes};
 use anyhow::Result;
@@ -7,7 +7,7 @@ use cases::records::{Pack, Recorded, put};
 use schema::entries::ReactionTrigger;
 use schema::index::{BindingKind, RouteDirection};
 use schema::row::Stored;
-use schema::rows::{ActionImage, EnclaveImage, ReactorImage, ScopeImage};
+use schema::rows::{ActionImage, DeadlineImage, EnclaveImage, ReactorImage, ScopeImage};
 
 fn with_enclave(rt: &HostRuntime, name: &[u8], enclave: EnclaveImage, batch: &[u8]) -> Result<()> {
     show_enclave(rt, name, &s_of(enclave), batch)
@@ -154,6 +154,51 @@ fn lengths(rt: &HostRuntime) -> Result<()> {
     with_enclave(rt, name, rows::enclave(2, 0, 1, 0), b"ab")
 }
 
+// Two reactions with the binding `c`, and two deadlines.
+fn with_deadlines(
+    rt: &HostRuntime,
+    name: &[u8],
+    first: DeadlineImage,
+    second: DeadlineImage,
+) -> Result<()> {
+    let binding = rows::binding(2, BindingKind::Reaction);
+    let records = two_deadlines(rows::enclave_s(), binding, first, second);
+    show_enclave(rt, name, &records, b"abc")
+}
+
+fn deadlines(rt: &HostRuntime) -> Result<()> {
+    let (first, second) = (rows::deadline(0, 1), rows::deadline(1, 1));
+    let past = rows::deadline(2, 1);
+    with_deadlines(rt, b"deadlines of reactions 0 and 1", first, second)?;
+    with_deadlines(rt, b"a deadline of reaction 2 of 2", first, past)?;
+    let name = b"two deadlines of one reaction";
+    with_deadlines(rt, name, second, second)?;
+    with_deadlines(rt, b"deadlines that fall", second, first)?;
+    let name = b"a deadline of no nanoseconds";
+    with_deadlines(rt, name, first, rows::deadline(1, 0))?;
+    let name = b"a deadline of the reaction past the last, of no nanoseconds";
+    with_deadlines(rt, name, first, rows::deadline(2, 0))?;
+    let name = b"two deadlines of one reaction, the second of no nanoseconds";
+    with_deadlines(rt, name, second, rows::deadline(1, 0))?;
+    let name = b"deadlines that fall, the second of no nanoseconds";
+    with_deadlines(rt, name, second, rows::deadline(0, 0))?;
+    let name = b"a deadline of no nanoseconds, then one of reaction 2 of 2";
+    with_deadlines(rt, name, rows::deadline(0, 0), past)
+}
+
+// What comes before deadlines: the identities of bindings, and the packing rules.
+fn before_deadlines(rt: &HostRuntime) -> Result<()> {
+    let zero = rows::deadline(0, 0);
+    let again = rows::binding(1, BindingKind::Reaction);
+    let records = two_deadlines(rows::enclave_s(), again, zero, zero);
+    let name = b"a binding twice, then deadlines of no nanoseconds";
+    show_enclave(rt, name, &records, b"ab")?;
+    let mut unknown = [0; 64];
+    unknown[0] = 26;
+    let records = [rows::enclave_s().record(), zero.record(), unknown];
+    show_enclave(rt, b"table 26 after table 25", &records, b"ab")
+}
+
 pub fn cases(rt: &HostRuntime) -> Result<()> {
     let (inbound, outbound) = (RouteDirection::Inbound, RouteDirection::Outbound);
     slots_and_parents(rt)?;
@@ -169,5 +214,7 @@ pub fn cases(rt: &HostRuntime) -> Result<()> {
     let name = b"equal boundaries, inbound first";
     both_halves(rt, name, inbound, outbound)?;
     let name = b"equal boundaries, outbound first";
-    both_halves(rt, name, outbound, inbound)
+    both_halves(rt, name, outbound, inbound)?;
+    deadlines(rt)?;
+    before_deadlines(rt)
 }

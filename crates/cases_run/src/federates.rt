@@ -1,10 +1,10 @@
 // The cases of a line.
-use crate::parts::{one_half, s_of, two_halves, two_scopes, uncovered_trigger};
+use crate::parts::{one_half, s_of, two_deadlines, two_halves, two_scopes, uncovered_trigger};
 use crate::rows;
 use crate::show::show_federate;
 use anyhow::Result;
 use cases::records::RecordBytes;
-use schema::index::{RouteDirection, TimingDomain};
+use schema::index::{BindingKind, RouteDirection, TimingDomain};
 use schema::row::Stored;
 use schema::rows::{EnclaveImage, RouteImage, ScopeImage};
 
@@ -172,9 +172,35 @@ fn duplicates(rt: &HostRuntime) -> Result<()> {
     outbound_at_first(rt)
 }
 
+// Two stations with two deadlines each, the last of them of so many nanoseconds.
+fn with_deadlines(
+    rt: &HostRuntime,
+    name: &[u8],
+    first: EnclaveImage,
+    second: EnclaveImage,
+    nanos: u64,
+) -> Result<()> {
+    let binding = rows::binding(2, BindingKind::Reaction);
+    let (zero, one) = (rows::deadline(0, 1), rows::deadline(1, 1));
+    let last = rows::deadline(1, nanos);
+    let first = two_deadlines(first, binding, zero, one);
+    let second = two_deadlines(second, binding, zero, last);
+    let line = rows::federate(3, 0, 2);
+    show_federate(rt, name, line, &[&first, &second], b"abcf")
+}
+
+// A station's deadlines are its own, and so come before its identity's order.
+fn deadlines(rt: &HostRuntime) -> Result<()> {
+    let (a, b) = (rows::enclave_s(), rows::enclave(1, 1, 1, 0));
+    with_deadlines(rt, b"two stations with deadlines", a, b, 1)?;
+    let name = b"second identity below the first, its last deadline of no nanoseconds";
+    with_deadlines(rt, name, b, a, 0)
+}
+
 pub fn cases(rt: &HostRuntime) -> Result<()> {
     counts(rt)?;
     identities(rt)?;
     boundaries(rt)?;
-    duplicates(rt)
+    duplicates(rt)?;
+    deadlines(rt)
 }

@@ -1,4 +1,4 @@
-// Document 01's lines tried by hand, and its misreadings: packs from rows, a line for each with the check's answer.
+// Document 01's lines tried by hand, and its misreadings, and deadlines: packs from rows, a line for each with the check's answer.
 #![tactic(auto)]
 
 mod enclaves;

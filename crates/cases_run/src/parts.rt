@@ -4,7 +4,9 @@ use cases::records::{RecordBytes, Recorded};
 use schema::entries::ReactionTrigger;
 use schema::index::BindingKind;
 use schema::row::Stored;
-use schema::rows::{EnclaveImage, ReactorImage, RouteImage, ScopeImage};
+use schema::rows::{
+    DeadlineImage, EnclaveImage, ReactorImage, RequiredBindingImage, RouteImage, ScopeImage,
+};
 
 // S with another enclave, reactor or scope.
 pub fn s(enclave: EnclaveImage, reactor: ReactorImage, scope: ScopeImage) -> [RecordBytes; 4] {
@@ -75,5 +77,25 @@ pub fn two_halves(
         second.record(),
         rows::binding_s().record(),
         rows::binding(2, BindingKind::Port).record(),
+    ]
+}
+
+// S with another enclave, two reactions with a binding of their own, and two deadlines.
+pub fn two_deadlines(
+    enclave: EnclaveImage,
+    binding: RequiredBindingImage,
+    first: DeadlineImage,
+    second: DeadlineImage,
+) -> [RecordBytes; 9] {
+    [
+        enclave.record(),
+        ReactorImage::empty().record(),
+        rows::reaction(1).record(),
+        rows::reaction(1).record(),
+        ScopeImage::empty().record(),
+        rows::binding_s().record(),
+        binding.record(),
+        first.record(),
+        second.record(),
     ]
 }

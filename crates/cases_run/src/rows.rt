@@ -2,13 +2,13 @@
 use identity::IdentityPlace;
 use range::{EnclaveSpan, IndexSpan, ModeSpan, SliceRange};
 use schema::index::{
-    ActionTiming, BankInfoImage, BindingKind, BindingSlotIndex, ModeIndex, ReactorIndex,
-    RouteDirection, ScopeIndex,
+    ActionTiming, BankInfoImage, BindingKind, BindingSlotIndex, ModeIndex, ReactionIndex,
+    ReactorIndex, RouteDirection, ScopeIndex,
 };
 use schema::row::Stored;
 use schema::rows::{
-    ActionImage, EnclaveImage, FederateImage, ModeImage, PortImage, ReactionImage, ReactorImage,
-    RequiredBindingImage, RouteImage, ScopeImage, StorageBounds,
+    ActionImage, DeadlineImage, EnclaveImage, FederateImage, ModeImage, PortImage, ReactionImage,
+    ReactorImage, RequiredBindingImage, RouteImage, ScopeImage, StorageBounds,
 };
 
 // A place in the batch text.
@@ -151,4 +151,11 @@ pub fn binding(start: u32, kind: BindingKind) -> RequiredBindingImage {
 // S's binding, the state initializer `b`.
 pub fn binding_s() -> RequiredBindingImage {
     binding(1, BindingKind::StateInitializer)
+}
+
+pub fn deadline(reaction: u32, nanos: u64) -> DeadlineImage {
+    DeadlineImage {
+        reaction: ReactionIndex::new(reaction),
+        nanos,
+    }
 }
