@@ -5,7 +5,7 @@ use mathlib.Core.List.{List}
 use native.Mathlib.Decide.{dec_le}
 use native.Mathlib.Omega.{arith}
 use Rattle.std.proofs.lemmas.List.{get_or_past}
-use Rattle.schema.specs.Tables.{start_of, rows_of}
+use Rattle.schema.specs.Tables.{tables, start_of, rows_of}
 use Rattle.schema.specs.Records.{records_of}
 use Rattle.schema.proofs.Counts.{records_few}
 use Rattle.packing.specs.Starts.{first_reaching, table_starts}

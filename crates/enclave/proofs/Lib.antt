@@ -3,3 +3,4 @@ pub mod Opened
 pub mod EachPass
 pub mod Missing
 pub mod Accepted
+pub mod Deadlines

@@ -16,7 +16,7 @@ use Rattle.enclave.specs.Passes.{Pass, head_passes, table_passes, row_passes, sc
 use Rattle.answers.specs.Numbers.{numbers}
 use Rattle.enclave.specs.Answer.{answer_numbers, image_result, unless, image_answer, pack_image, enclave_answer}
 
-checks_append : (m : Image) (fs gs : List Pass) → checks_of m (fs ++ gs) ≡ checks_of m fs ++ checks_of m gs
+pub checks_append : (m : Image) (fs gs : List Pass) → checks_of m (fs ++ gs) ≡ checks_of m fs ++ checks_of m gs
 unfolding checks_of
 checks_append m [] gs = refl
 checks_append m (f ∷ fs) gs = rw (checks_append m fs gs) (sym (append_assoc (pass_checks m f) (checks_of m fs) (checks_of m gs)))

@@ -4,3 +4,4 @@ pub mod Enclaves
 pub mod Federate
 pub mod Answer
 pub mod Missing
+pub mod Deadlines

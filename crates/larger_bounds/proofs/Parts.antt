@@ -1,18 +1,16 @@
--- The packs of the enclaves of a federate pack: their bytes are the federate's, and each has one enclave. Assumes nothing.
+-- The packs of the enclaves of a federate pack: each has one enclave, with the federate's bounds. Assumes nothing.
 use Prim.Native.Nat.{ℕ, zero, suc, ◌+◌, ◌-◌, ◌*◌, ◌<◌, ◌≤◌}
 use mathlib.Core.Bool.{true, true≢false}
 use mathlib.Core.Path.{◌≡◌, ◌∙◌, ap, sym}
 use mathlib.Core.List.{List}
 use native.Mathlib.Decide.{dec_le}
 use native.Mathlib.Omega.{arith}
-use native.Mathlib.Nat.{min-le_left}
-use lib.ListN.{length, get_or, drop, length-take, get_or-eq_default}
-use lib.Seq.{get_or-take, get_or-drop}
 use borrow.Author.Tests.{eq-eqb}
 use Rattle.schema.specs.Bytes.{byte_of}
 use Rattle.schema.specs.Rows.{enclave_at}
 use Rattle.schema.specs.Records.{records_of, is_of}
-use Rattle.federate.specs.Records.{enclave_from, enclave_end, enclave_pack}
+use Rattle.federate.specs.Records.{enclave_from}
+use Rattle.federate.proofs.PartBytes.{own, many, byte_inside, byte-outside}
 use Rattle.larger_bounds.specs.Packs.{state_bound, action_bound}
 use Rattle.identity.proofs.Tests.{cases}
 use Rattle.larger_bounds.proofs.RowBytes.{number_same}
@@ -37,42 +35,25 @@ after-own p zero a = omega arith
 after-own p (suc k) a = cases (is_of p 1 a) (λ b. rw b (omega arith)) (λ b. rw b (let h = after-own p k (suc a) in omega arith))
 
 module _ (p : List ℕ) (n : ℕ) where
-  abbrev own : List ℕ
-  own = enclave_pack p n
-
-  abbrev pub many : ℕ
-  many = (enclave_end p n - n) * 64
-
-  own-some : 64 ≤ many
+  own-some : 64 ≤ many p n
   own-some = let h = after-own p (records_of p - suc n) (suc n) in omega arith
 
-  -- a byte inside is the federate's; one outside is 0
-  pub byte_inside : (m j : ℕ) → m * 64 + j < many → byte_of own m j ≡ byte_of p (n + m) j
-  byte_inside m j l =
-      let e : n * 64 + (m * 64 + j) ≡ (n + m) * 64 + j = omega arith in
-      get_or-take many (drop (n * 64) p) (m * 64 + j) 0 l ∙ get_or-drop (n * 64) p (m * 64 + j) 0 ∙ ap (λ (k : ℕ). get_or p k 0) e
-
-  pub byte-outside : (m j : ℕ) → many ≤ m * 64 + j → byte_of own m j ≡ 0
-  byte-outside m j l =
-      let e : length own ≤ many = rw (length-take many (drop (n * 64) p)) (min-le_left many (length (drop (n * 64) p))) in
-      get_or-eq_default own 0 (omega arith)
-
   -- its own record's bytes
-  own-byte : (j : ℕ) → j < 64 → byte_of own 0 j ≡ byte_of p n j
-  own-byte j l = let h = own-some in let e : n + 0 ≡ n = omega arith in byte_inside 0 j (omega arith) ∙ ap (λ (k : ℕ). byte_of p k j) e
+  own-byte : (j : ℕ) → j < 64 → byte_of (own p n) 0 j ≡ byte_of p n j
+  own-byte j l = let h = own-some in let e : n + 0 ≡ n = omega arith in byte_inside p n 0 j (omega arith) ∙ ap (λ (k : ℕ). byte_of p k j) e
 
   -- its own record is its only enclave's
-  pub own-single : (m : ℕ) → byte_of own (suc m) 0 ≡ 1 → ⊥
+  pub own-single : (m : ℕ) → byte_of (own p n) (suc m) 0 ≡ 1 → ⊥
   own-single m e =
-      elim (dec_le many (suc m * 64 + 0)) [
-        | yes g ↦ (let z = byte-outside (suc m) 0 g in absurd (omega arith))
-        | no g ↦ before-end p (records_of p - suc n) (suc n) (n + suc m) (omega arith) (omega arith) (eq-eqb _ _ (sym (byte_inside (suc m) 0 (omega arith)) ∙ e))
+      elim (dec_le (many p n) (suc m * 64 + 0)) [
+        | yes g ↦ (let z = byte-outside p n (suc m) 0 g in absurd (omega arith))
+        | no g ↦ before-end p (records_of p - suc n) (suc n) (n + suc m) (omega arith) (omega arith) (eq-eqb _ _ (sym (byte_inside p n (suc m) 0 (omega arith)) ∙ e))
       ]
 
-  pub own-state : state_bound own 0 ≡ state_bound p n
+  pub own-state : state_bound (own p n) 0 ≡ state_bound p n
   unfolding enclave_at
-  own-state = number_same p own n 0 4 12 (λ j l. own-byte j (omega arith))
+  own-state = number_same p (own p n) n 0 4 12 (λ j l. own-byte j (omega arith))
 
-  pub own-action : action_bound own 0 ≡ action_bound p n
+  pub own-action : action_bound (own p n) 0 ≡ action_bound p n
   unfolding enclave_at
-  own-action = number_same p own n 0 4 16 (λ j l. own-byte j (omega arith))
+  own-action = number_same p (own p n) n 0 4 16 (λ j l. own-byte j (omega arith))

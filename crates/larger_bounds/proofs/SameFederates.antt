@@ -18,7 +18,7 @@ use Rattle.route_pairs.specs.RoutePairs.{half_at, halves, pair_checks, route_rec
 use Rattle.larger_bounds.specs.Packs.{StorageByte, DifferInStorage}
 use Rattle.larger_bounds.proofs.RowBytes.{row_same}
 use Rattle.larger_bounds.proofs.SamePacks.{table_same, record_same}
-use Rattle.larger_bounds.proofs.Parts.{many, byte_inside, byte-outside}
+use Rattle.federate.proofs.PartBytes.{many, byte_inside, byte-outside}
 use Rattle.identity.proofs.Tests.{cases}
 
 module _ (p q : List ℕ) (d : DifferInStorage p q) where

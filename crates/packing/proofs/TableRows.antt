@@ -10,13 +10,13 @@ use borrow.Author.Tests.{leb-true, lt-ltb, le-ltb}
 use Rattle.identity.proofs.Tests.{cases}
 use Rattle.answers.specs.Checks.{first, passed}
 use Rattle.schema.specs.Bytes.{byte_of}
-use Rattle.schema.specs.Tables.{tables, start_of}
+use Rattle.schema.specs.Tables.{tables, start_of, rows_of}
 use Rattle.packing.specs.declared.PackKind.TheVariants.{Enclave}
 use Rattle.packing.specs.Packing.{packing_checks}
 use Rattle.schema.specs.Records.{records_of}
 use Rattle.packing.specs.Starts.{reaches, first_reaching, table_starts}
 use Rattle.packing.specs.TableRows.{IsRow, RowsByByte}
-use Rattle.packing.proofs.TableStarts.{not-reached, starts-at, starts_from, starts-within}
+use Rattle.packing.proofs.TableStarts.{not-reached, reached-row, starts-at, starts_from, starts-within}
 use Rattle.packing.proofs.Records.{records_all, some_record}
 use Rattle.packing.proofs.Packed.{fits, rows_above, rise}
 
@@ -34,6 +34,24 @@ module _ (p : List ℕ) (t : ℕ) where
   unfolding first_reaching
   at_first zero a u = absurd (omega arith)
   at_first (suc f) a u = cases (reaches p t a) (λ r. rw r r) (λ r. let v = rw r at u in rw r (at_first f (a + 1) (omega arith)))
+
+-- a table of which the pack has no record has no row
+pub no_rows : (p : List ℕ) (t : ℕ) → t < tables → ((k : ℕ) → byte_of p k 0 ≡ t → ⊥) → rows_of (table_starts p 1) t ≡ 0
+no_rows p t known none =
+    elim (dec_le (start_of (table_starts p 1) (t + 1)) (start_of (table_starts p 1) t)) [
+      | yes g ↦ omega arith
+      | no g ↦
+          let s = start_of (table_starts p 1) t in
+          let e = starts-at p 1 t (omega arith) in
+          let above : s < start_of (table_starts p 1) (t + 1) = omega arith in
+          let u = before_first p (t + 1) (records_of p) 1 s (starts_from p 1 t (omega arith)) (rw (starts-at p 1 (t + 1) (omega arith)) at above) in
+          let b = not-reached p (t + 1) s u in
+          let inside : s < 1 + records_of p = (let k = b.0 in omega arith) in
+          let r = rw (sym e) at (at_first p t (records_of p) 1 (rw e at inside)) in
+          let l = reached-row p (t + 1) t s u r in
+          let same : byte_of p s 0 ≡ t = (let k = b.1 in omega arith) in
+          absurd (none s same)
+    ]
 
 module _ (p batch house : List ℕ) (h : first (packing_checks Enclave p batch house) ≡ passed) where
   abbrev start : ℕ → ℕ

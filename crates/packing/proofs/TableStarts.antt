@@ -8,7 +8,7 @@ use native.Mathlib.Omega.{arith}
 use lib.Dec.{ltb, leb}
 use lib.ListN.{length, get_or, take, set, length-set, length-append, get_or-append}
 use lib.Seq.{get_or_at, take-suc-set, take_all}
-use borrow.Author.Tests.{ltb-true, ltb-false, leb-false, lt-leb}
+use borrow.Author.Tests.{ltb-true, ltb-false, leb-true, leb-false, lt-leb}
 use Rattle.identity.proofs.Tests.{cases}
 use Rattle.schema.specs.Bytes.{byte_of}
 use Rattle.schema.specs.Tables.{tables, IsRising, EndsInside}
@@ -17,9 +17,9 @@ use Rattle.schema.proofs.Counts.{records_inside, records_few}
 use Rattle.packing.proofs.Records.{some_record}
 use Rattle.packing.specs.Starts.{reaches, first_reaching, table_start, starts_below, table_starts}
 
-reaching : (a b : Bool) (d e : ℕ) → not a || (b || leb d e) ≡ false → (a ≡ true) × (e < d)
+reaching : (a b : Bool) (d e : ℕ) → not a || (b || leb d e) ≡ false → (a ≡ true) × (b ≡ false) × (e < d)
 reaching true true d e h = absurd (true≢false h)
-reaching true false d e h = (refl, leb-false d e h)
+reaching true false d e h = (refl, refl, leb-false d e h)
 reaching false b d e h = absurd (true≢false h)
 
 module _ (p : List ℕ) where
@@ -27,7 +27,13 @@ module _ (p : List ℕ) where
   pub not-reached : (t k : ℕ) → reaches p t k ≡ false → (k < records_of p) × (byte_of p k 0 < t)
   not-reached t k h =
       let r = reaching (ltb k (records_of p)) (ltb (byte_of p k 0) 2) t (byte_of p k 0) h in
-      (ltb-true k (records_of p) r.0, r.1)
+      (ltb-true k (records_of p) r.0, r.2)
+
+  -- and is no enclave's, and of table u or a later one where it reaches that
+  pub reached-row : (t u k : ℕ) → reaches p t k ≡ false → reaches p u k ≡ true → u ≤ byte_of p k 0
+  reached-row t u k h g =
+      let r = reaching (ltb k (records_of p)) (ltb (byte_of p k 0) 2) t (byte_of p k 0) h in
+      leb-true u (byte_of p k 0) (rw (r.0, r.1) at g)
 
   -- nor does it reach a later table
   later : (a b : Bool) (d e x : ℕ) → d ≤ e → not a || (b || leb d x) ≡ false → not a || (b || leb e x) ≡ false

@@ -1,0 +1,19 @@
+-- An enclave without deadlines is checked as one whose pack has no table for them. Assumes nothing.
+use Rattle.std.specs.Prelude.{ℕ, ◌-◌, ◌≡◌, List, length, take}
+use Rattle.schema.specs.Bytes.{byte_of}
+use Rattle.enclave.specs.Passes.{Pass, passes, checks_of, enclave_checks}
+use Rattle.enclave.specs.Answer.{pack_image}
+
+-- no record of the pack is a deadline
+abbrev pub NoDeadlines : List ℕ → Type 0
+NoDeadlines p = (n : ℕ) → byte_of p n 0 ≡ 25 → ⊥
+
+-- the passes of `validate_enclave_const`: all but the last
+abbrev pub ported_passes : List Pass
+ported_passes = take (length passes - 1) passes
+
+-- the checks of an enclave without deadlines are those of these passes alone
+abbrev pub KeepsChecks : Type 0
+KeepsChecks =
+    (p batch house : List ℕ) → NoDeadlines p
+    → enclave_checks (pack_image p batch house) ≡ checks_of (pack_image p batch house) ported_passes
