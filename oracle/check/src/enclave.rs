@@ -5,7 +5,7 @@ use boomerang_runtime::CompiledModeEffectRef;
 use pack::layout::{ACTIONS, BINDINGS, ENCLAVE, MODES, PORTS, REACTIONS, REACTORS, ROUTES, SCOPES};
 use pack::row::Row;
 
-/// The tables that an `EnclaveImage` borrows.
+/// The tables that an `EnclaveImage` borrows. It has none of deadlines: table 25 is left out.
 pub struct Enclave<'a> {
     id: &'a str,
     bounds: StorageBounds,

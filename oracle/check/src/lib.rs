@@ -1,13 +1,17 @@
-//! A case through the packing rules and boomerang's check, as one answer.
+//! A case through the packing rules, boomerang's check and that of the deadlines, as one answer.
 mod answer;
+mod deadlines;
 mod enclave;
 mod identities;
 mod links;
 mod numbers;
+mod places;
 pub mod worth;
 
 pub use answer::Answer;
+pub use deadlines::Deadlines;
 pub use links::links;
+pub use places::{Part, Place};
 
 use boomerang_runtime::image::{
     EnclaveImage, EnclaveImageView, FederateId, FederateImage, FederateImageView, ImageValidationError,
@@ -45,36 +49,79 @@ pub fn stations(rows: &[Row]) -> Vec<&[Row]> {
     rows.chunk_by(|_, next| next.table != ENCLAVE).collect()
 }
 
-fn after_packing(case: &Case, kind: Kind) -> Answer {
-    let rows = rows(case);
-    let identities = Identities::of(case, &rows);
-    let stations = stations(&rows);
-    let enclaves: Vec<Enclave> = stations.iter().map(|rows| Enclave::of(rows, &identities)).collect();
-    let images: Vec<EnclaveImage> = enclaves.iter().map(Enclave::image).collect();
-    let links = || stations.iter().map(|rows| links(rows)).sum();
-    let refused = |error| {
-        let mut numbers = numbers::of(&error, &identities);
-        if let ImageValidationError::ReferenceOutOfBounds { .. } = error {
-            numbers.push(length(stations[refusing(&images)], numbers[4]));
-        }
-        Answer::Refused(numbers)
-    };
-    match kind {
-        Kind::Enclave => match EnclaveImageView::new(images[0].clone()) {
-            Ok(_) => Answer::Accepted { stations: None, links: links() },
-            Err(error) => refused(error),
-        },
-        Kind::Federate => match FederateImageView::new(federate(&rows[0], &identities), &images) {
-            Ok(_) => Answer::Accepted { stations: Some(stations.len() as u64), links: links() },
-            Err(error) => refused(error),
-        },
+/// A refusal and where it stands.
+pub struct Fault {
+    pub place: Place,
+    pub numbers: Vec<u64>,
+}
+
+/// What a case that passes the packing rules is refused for.
+pub struct Faults {
+    /// By the Rust, which does not see the deadlines.
+    pub rust: Option<Fault>,
+    /// The first fault of the deadlines.
+    pub deadlines: Option<Fault>,
+}
+
+impl Faults {
+    /// The one that comes first.
+    pub fn first(self) -> Option<Fault> {
+        [self.rust, self.deadlines].into_iter().flatten().min_by_key(|fault| fault.place)
     }
 }
 
-/// The station that a 12 is about: the first that is refused by itself. The Rust's error does not name it.
-fn refusing(images: &[EnclaveImage]) -> usize {
-    let first = images.iter().position(|image| EnclaveImageView::new(image.clone()).is_err());
-    first.expect("12 comes from a station's own check")
+fn after_packing(case: &Case, kind: Kind) -> Answer {
+    if let Some(fault) = faults(case, kind).first() {
+        return Answer::Refused(fault.numbers);
+    }
+    let rows = rows(case);
+    let stations = stations(&rows);
+    let links = stations.iter().map(|rows| links(rows)).sum();
+    match kind {
+        Kind::Enclave => Answer::Accepted { stations: None, links },
+        Kind::Federate => Answer::Accepted { stations: Some(stations.len() as u64), links },
+    }
+}
+
+/// What a case is refused for; it passes the packing rules.
+pub fn faults(case: &Case, kind: Kind) -> Faults {
+    let rows = rows(case);
+    let stations = stations(&rows);
+    Faults { rust: of_rust(case, kind, &rows, &stations), deadlines: of_deadlines(&stations) }
+}
+
+/// What the Rust refuses; the deadlines are left out of its images.
+fn of_rust(case: &Case, kind: Kind, rows: &[Row], stations: &[&[Row]]) -> Option<Fault> {
+    let identities = Identities::of(case, rows);
+    let enclaves: Vec<Enclave> = stations.iter().map(|rows| Enclave::of(rows, &identities)).collect();
+    let images: Vec<EnclaveImage> = enclaves.iter().map(Enclave::image).collect();
+    let (error, start) = match kind {
+        Kind::Enclave => (of_alone(&images[0])?, 0),
+        Kind::Federate => {
+            let federate = federate(&rows[0], &identities);
+            (FederateImageView::new(federate, &images).err()?, rows[0].numbers[6])
+        }
+    };
+    let mut numbers = numbers::of(&error, &identities);
+    let alone = || images.iter().position(|image| of_alone(image).is_some());
+    let place = places::of_rust(&numbers, start, alone);
+    if let (12, Place::Station(station, Part::Rust)) = (numbers[0], place) {
+        numbers.push(length(stations[station], numbers[4]));
+    }
+    Some(Fault { place, numbers })
+}
+
+/// What the Rust refuses of one station by itself.
+fn of_alone<'a>(image: &EnclaveImage<'a>) -> Option<ImageValidationError<'a>> {
+    EnclaveImageView::new(image.clone()).err()
+}
+
+/// The first station with a deadline at fault.
+fn of_deadlines(stations: &[&[Row]]) -> Option<Fault> {
+    stations.iter().enumerate().find_map(|(station, rows)| {
+        let numbers = Deadlines::of(rows).refusal()?;
+        Some(Fault { place: Place::Station(station, Part::Deadlines), numbers })
+    })
 }
 
 /// The rows of a table, the last number of a 12, which the Rust does not give: the records of the station

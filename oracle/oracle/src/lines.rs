@@ -4,7 +4,7 @@ use crate::Done;
 use check::answer;
 use pack::corpus::Case;
 use pack::layout::{
-    ACTIONS, BINDINGS, ENCLAVE, FEDERATE, MODES, PORTS, REACTIONS, REACTORS, ROUTES, SCOPES, TIMER,
+    ACTIONS, BINDINGS, DEADLINES, ENCLAVE, FEDERATE, MODES, PORTS, REACTIONS, REACTORS, ROUTES, SCOPES, TIMER,
 };
 use pack::row::{pack, Row};
 use std::fs::File;
@@ -101,6 +101,9 @@ pub fn all() -> Vec<Line> {
         lengths(),
         misreadings(),
         missing_rows(),
+        deadlines(),
+        packed_deadlines(),
+        deadlines_of_lines(),
     ]
     .into_iter()
     .flatten()
@@ -226,11 +229,7 @@ fn missing_rows() -> Vec<Line> {
     let root_scope = |draft: Draft, scope| draft.set(REACTORS, 0, 2, scope);
     let scopes =
         |draft: Draft, count| (1..count).fold(draft, |draft, _| draft.add(Row::new(SCOPES, &[0; 15])));
-    let two = |first: Draft, second: Draft| {
-        let mut both = first.line(2);
-        both.rows.extend(second.set(ENCLAVE, 0, 0, 1).rows);
-        both
-    };
+    let two = |first, second| two(first, second, 1);
     let s = smallest;
     let mut unbound = s();
     unbound.rows.retain(|row| row.table != BINDINGS);
@@ -247,6 +246,113 @@ fn missing_rows() -> Vec<Line> {
             .federate("the second station's scopes", "refused 12 2 0 3 7 41 3"),
         two(with_routes(&[0]), portless)
             .federate("the second station's ports, none", "refused 12 23 0 32 4 0 0"),
+    ]
+}
+
+/// S with so many reactions, bound to `c`, and these deadlines: reaction and nanoseconds.
+fn timed(reactions: u64, deadlines: &[[u64; 2]]) -> Draft {
+    let mut draft = smallest().text("abc").add(Row::new(BINDINGS, &[2, 1]).second(1));
+    for level in 0..reactions {
+        draft = draft.add(Row::new(REACTIONS, &[0, 0, level, 1, 0, 0, 0, 0, 0, 0, 0, 0, 0]));
+    }
+    deadlines.iter().fold(draft, |draft, deadline| draft.add(Row::new(DEADLINES, deadline)))
+}
+
+/// Wish 12: the checks of deadlines, in their order.
+fn deadlines() -> Vec<Line> {
+    let most = u64::from(u32::MAX);
+    let bad_binding = timed(1, &[[0, 0]]).set(BINDINGS, 1, 1, 0);
+    let same_binding = timed(1, &[[5, 1]]).set(BINDINGS, 1, 0, 1);
+    vec![
+        timed(1, &[[0, 1]]).station("a deadline", "accepted 0"),
+        timed(3, &[[0, 1], [2, u64::MAX]]).station("deadlines of two reactions of three", "accepted 0"),
+        timed(0, &[[0, 1]]).station("a deadline where there is no reaction", "refused 12 25 0 27 5 0 0"),
+        timed(1, &[[1, 1]]).station("a deadline of reaction 1 of one", "refused 12 25 0 27 5 1 1"),
+        timed(2, &[[0, 1], [most, 1]])
+            .station("a deadline of a reaction far off", "refused 12 25 1 27 5 4294967295 2"),
+        timed(2, &[[1, 1], [1, 2]]).station("two deadlines of one reaction", "refused 16 25 1"),
+        timed(2, &[[1, 1], [0, 1]]).station("deadlines whose reactions fall", "refused 15 25 1"),
+        timed(3, &[[0, 1], [2, 1], [1, 1]]).station("the third falls", "refused 15 25 2"),
+        timed(1, &[[0, 0]]).station("a deadline of zero nanoseconds", "refused 39 0"),
+        timed(3, &[[0, 1], [1, 1], [2, 0]]).station("the last is zero", "refused 39 2"),
+        timed(1, &[[0, 1 << 32]]).station("the low half of the nanoseconds is zero", "accepted 0"),
+        timed(1, &[[1, 0]]).station("missing and zero", "refused 12 25 0 27 5 1 1"),
+        timed(2, &[[1, 1], [1, 0]]).station("twice and zero", "refused 16 25 1"),
+        timed(2, &[[1, 1], [0, 0]]).station("falling and zero", "refused 15 25 1"),
+        timed(2, &[[0, 0], [2, 1]]).station("zero, then a missing one", "refused 39 0"),
+        timed(2, &[[1, 1], [0, 1], [2, 1]]).station("falling, then a missing one", "refused 15 25 1"),
+        timed(2, &[[2, 1], [0, 0]]).station("missing, then falling and zero", "refused 12 25 0 27 5 2 2"),
+        bad_binding.station("an empty binding, and a deadline of zero", "refused 19 6 1 0 2 0"),
+        same_binding.station("a binding twice, and a missing reaction", "refused 21 6 1 0 1 1"),
+    ]
+}
+
+/// The packing rules of table 25, and of the numbers after it.
+fn packed_deadlines() -> Vec<Line> {
+    let changed = |at: usize, byte: u8, name, expected| {
+        let mut line = timed(2, &[[0, 0], [1, 1]]).station(name, expected);
+        line.case.pack[7 * 64 + at] = byte;
+        line
+    };
+    let mut first = timed(1, &[[0, 1]]);
+    first.rows.swap(5, 6);
+    let mut line = timed(1, &[[0, 1]]).line(1);
+    line.rows.swap(1, 7);
+    vec![
+        changed(0, 26, "a record of table 26", "refused 3 7"),
+        changed(0, 255, "a record of table 255", "refused 3 7"),
+        changed(1, 1, "a bit in byte 1 of a deadline", "refused 4 7"),
+        changed(2, 1, "a kind in a deadline", "refused 4 7"),
+        changed(3, 1, "byte 3 of a deadline", "refused 4 7"),
+        changed(4, 1, "the first byte of a deadline's reaction", "refused 12 25 0 27 5 16777216 2"),
+        changed(7, 2, "the last byte of a deadline's reaction", "refused 12 25 0 27 5 2 2"),
+        changed(8, 1, "the first byte of a deadline's nanoseconds", "accepted 0"),
+        changed(15, 1, "the last byte of a deadline's nanoseconds", "accepted 0"),
+        changed(16, 1, "the first byte after a deadline", "refused 4 7"),
+        changed(63, 1, "the last byte after a deadline", "refused 4 7"),
+        first.station("a deadline before a binding", "refused 3 6"),
+        line.federate("a deadline in the place of the station", "refused 3 1"),
+    ]
+}
+
+/// A line of two stations; the second one's identity starts here.
+fn two(first: Draft, second: Draft, id: u64) -> Draft {
+    let mut both = first.line(2);
+    both.rows.extend(second.set(ENCLAVE, 0, 0, id).rows);
+    both
+}
+
+/// Wish 12: where in a line's order the deadlines of a station stand.
+fn deadlines_of_lines() -> Vec<Line> {
+    const GOOD: [u64; 2] = [0, 1];
+    const ZERO: [u64; 2] = [0, 0];
+    const FAR: [u64; 2] = [7, 0];
+    let named = |first, second, id| two(timed(1, &[first]), timed(1, &[second]), id);
+    let a_and_b = |first, second| named(first, second, 1);
+    let a_twice = |first, second| named(first, second, 0);
+    let b_and_a = |first, second| named(first, second, 0).set(ENCLAVE, 0, 0, 1);
+    let bad_scope = |draft: Draft| draft.set(REACTORS, 1, 2, 9);
+    let routed = |deadline: Option<Row>| {
+        let second = with_routes(&[0]);
+        two(with_routes(&[0]), deadline.into_iter().fold(second, Draft::add), 1)
+    };
+    vec![
+        a_and_b(GOOD, GOOD).federate("a line with deadlines", "accepted 2 0"),
+        a_and_b(GOOD, FAR).federate("a missing reaction of the second station", "refused 12 25 0 27 5 7 1"),
+        a_and_b(ZERO, FAR).federate("deadlines at fault in both stations", "refused 39 0"),
+        bad_scope(a_and_b(ZERO, GOOD)).federate("a deadline, then the second's scope", "refused 39 0"),
+        bad_scope(a_and_b(GOOD, ZERO))
+            .federate("the second's scope, then its deadline", "refused 12 2 0 3 7 9 1"),
+        a_twice(GOOD, GOOD).federate("21 where the deadlines are good", "refused 21 4 1 0 0 1"),
+        a_twice(GOOD, ZERO).federate("a deadline before 21 of its station", "refused 39 0"),
+        a_twice(ZERO, GOOD).federate("a deadline before 21 of the next station", "refused 39 0"),
+        b_and_a(GOOD, GOOD).federate("20 where the deadlines are good", "refused 20 4 1 0 0 1"),
+        b_and_a(GOOD, ZERO).federate("a deadline before 20 of its station", "refused 39 0"),
+        routed(None).federate("27 of two stations' routes", "refused 27 0 3 1 0"),
+        routed(Some(Row::new(DEADLINES, &GOOD))).federate("a deadline before 27", "refused 12 25 0 27 5 0 0"),
+        a_and_b(ZERO, GOOD)
+            .set(FEDERATE, 0, 7, 3)
+            .federate("the span's length before a deadline", "refused 17 0 0 33"),
     ]
 }
 

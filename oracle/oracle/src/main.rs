@@ -1,6 +1,7 @@
 //! The oracle's commands.
 mod case;
 mod compare;
+mod deadlines;
 mod lines;
 mod sample;
 mod show;
@@ -20,8 +21,9 @@ oracle CORPUS                        one answer line per case
 oracle stats CORPUS                  how often each refusal and each site was met
 oracle show CORPUS N                 case N, from 0, in words
 oracle case CORPUS N DIR             case N as line.pack, batch.txt and house.txt
-oracle sample CORPUS OUT ANSWERS [COUNT]
-                                     small cases that meet every site that CORPUS meets
+oracle sample CORPUS OUT ANSWERS [COUNT [deadlines]]
+                                     small cases that meet every site that CORPUS meets, or all that is said of deadlines
+oracle with TABLE CORPUS OUT         the cases that have a record of a table
 oracle compare ANSWERS REPLAYED      two files of answer lines, line by line
 oracle worth CORPUS                  tries what a yes is worth on each accepted station and line
 oracle lines                         document 01's lines tried by hand
@@ -34,8 +36,12 @@ fn main() -> ExitCode {
         ["stats", corpus] => stats::print(corpus),
         ["show", corpus, number] => show::print(corpus, number),
         ["case", corpus, number, directory] => case::write(corpus, number, directory),
-        ["sample", corpus, out, answers] => sample::write(corpus, out, answers, "3000"),
-        ["sample", corpus, out, answers, count] => sample::write(corpus, out, answers, count),
+        ["sample", corpus, out, answers] => sample::write(corpus, out, answers, "3000", sample::all),
+        ["sample", corpus, out, answers, count] => sample::write(corpus, out, answers, count, sample::all),
+        ["sample", corpus, out, answers, count, "deadlines"] => {
+            sample::write(corpus, out, answers, count, sample::of_deadlines)
+        }
+        ["with", table, corpus, out] => case::with(table, corpus, out),
         ["compare", answers, replayed] => compare::print(answers, replayed),
         ["worth", corpus] => worth::print(corpus),
         ["lines"] => lines::print(),

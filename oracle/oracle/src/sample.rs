@@ -1,12 +1,13 @@
-//! A fixed list: small cases with their answers, that together meet every site, and 12 with tables of every
-//! length in stations and lines.
-use crate::{for_each, sites, Done};
-use check::answer;
+//! A fixed list: small cases with their answers, that together meet every site, 12 with tables of every
+//! length in stations and lines, and all that is said of deadlines.
+use crate::{deadlines, for_each, sites, Done};
+use check::{answer, Answer};
+use pack::corpus::Case;
 use std::collections::{BTreeMap, BTreeSet};
 use std::fs::File;
 use std::io::{self, BufWriter, Write};
 
-/// Cases taken of each site, and of each length and place of 12, the smallest first.
+/// Cases taken of each site, of each length and place of 12, and of all that is said of deadlines, the smallest first.
 const OF_EACH: usize = 5;
 /// The largest case taken to meet a site that smaller ones do not meet.
 const LARGEST: usize = 100_000;
@@ -15,9 +16,30 @@ const MIDDLE: usize = 2_500;
 /// The largest case taken to fill up.
 const SMALL: usize = 900;
 
-pub fn write(corpus: &str, out: &str, answers: &str, count: &str) -> Done {
+/// What a case meets: a few cases of each are taken.
+type Groups = fn(&Case, &Answer) -> Vec<String>;
+
+/// Every site, each length and place of 12, and all that is said of deadlines.
+pub fn all(case: &Case, answer: &Answer) -> Vec<String> {
+    let site = sites::of(case, answer).unwrap_or_else(|| format!("accepted {}", case.kind));
+    let mut groups = deadlines::of(case);
+    groups.extend([Some(site), sites::short_table(case, answer)].into_iter().flatten());
+    groups
+}
+
+/// Of cases with deadlines: what is said of these, and their sites.
+pub fn of_deadlines(case: &Case, answer: &Answer) -> Vec<String> {
+    let mut groups = deadlines::of(case);
+    if !groups.is_empty() {
+        let site = sites::of(case, answer);
+        groups.extend(site.filter(|site| site.contains("deadlines") || site.starts_with("03")));
+    }
+    groups
+}
+
+pub fn write(corpus: &str, out: &str, answers: &str, count: &str, groups: Groups) -> Done {
     let count: usize = count.parse().map_err(|_| io::Error::other("COUNT is a number"))?;
-    let chosen = choose(corpus, count)?;
+    let chosen = choose(corpus, count, groups)?;
     let mut out = BufWriter::new(File::create(out)?);
     let mut lines = BufWriter::new(File::create(answers)?);
     for_each(corpus, |number, case| {
@@ -33,9 +55,9 @@ pub fn write(corpus: &str, out: &str, answers: &str, count: &str) -> Done {
     Ok(true)
 }
 
-/// The smallest cases of each site, then the first small ones until there are `count`.
-fn choose(corpus: &str, count: usize) -> io::Result<BTreeSet<u64>> {
-    let mut by_site: BTreeMap<String, Vec<(usize, u64)>> = BTreeMap::new();
+/// The smallest cases of each group, then the first small ones until there are `count`.
+fn choose(corpus: &str, count: usize, groups: Groups) -> io::Result<BTreeSet<u64>> {
+    let mut by_group: BTreeMap<String, Vec<(usize, u64)>> = BTreeMap::new();
     let mut small = Vec::new();
     for_each(corpus, |number, case| {
         let answer = answer(&case);
@@ -45,9 +67,8 @@ fn choose(corpus: &str, count: usize) -> io::Result<BTreeSet<u64>> {
         if case.size() <= SMALL {
             small.push(number);
         }
-        let site = sites::of(&case, &answer).unwrap_or_else(|| format!("accepted {}", case.kind));
-        for site in [Some(site), sites::short_table(&case, &answer)].into_iter().flatten() {
-            let cases = by_site.entry(site).or_default();
+        for group in groups(&case, &answer) {
+            let cases = by_group.entry(group).or_default();
             cases.push((case.size(), number));
             cases.sort();
             cases.truncate(OF_EACH);
@@ -55,7 +76,7 @@ fn choose(corpus: &str, count: usize) -> io::Result<BTreeSet<u64>> {
         Ok(())
     })?;
     let mut chosen = BTreeSet::new();
-    for cases in by_site.values() {
+    for cases in by_group.values() {
         chosen.insert(cases[0].1);
         chosen.extend(cases.iter().filter(|(size, _)| *size <= MIDDLE).map(|(_, number)| *number));
     }

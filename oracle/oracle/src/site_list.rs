@@ -1,4 +1,4 @@
-//! Every site, in the order of the rules and of view.rs, with the reason where none can be met.
+//! Every site, in the order of the rules, of view.rs and of the deadlines, with the reason where none can be met.
 use pack::layout::{Present, Second, Shape, Table, TABLES};
 
 pub struct Site {
@@ -253,6 +253,7 @@ fn tail() -> Vec<Site> {
     ));
     sites.extend(invalid("binding"));
     sites.extend(each("21 binding\n 20 binding"));
+    sites.extend(each("12 deadlines.reaction\n 16 deadlines\n 15 deadlines\n 39 deadlines"));
     sites.push(never("19 enclave, of a line", STATION_FIRST));
     sites.extend(each(
         "21 enclave

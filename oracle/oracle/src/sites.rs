@@ -1,4 +1,4 @@
-//! The site of a refusal: the place in the packing rules or in view.rs that gave it.
+//! The site of a refusal: the place in the packing rules, in view.rs or in the checks of deadlines that gave it.
 //!
 //! Most refusals name their site by refusal, table and field. Where several places give the
 //! same numbers, or one test has several parts, the case's own rows tell them apart.
@@ -84,6 +84,7 @@ fn view_site(case: &Case, numbers: &[u64], station: &[Row], in_station: bool) ->
         27 => whole(format!("{} half, {}", direction_name(n(4)), if in_station { "rows" } else { "pairs" })),
         28 => whole(field_name(n(4)).into()),
         18 => whole("scopes".into()),
+        39 => whole("deadlines".into()),
         _ => place(0, ""),
     }
 }

@@ -1,5 +1,5 @@
 //! How often each refusal, each table and field, and each site was met.
-use crate::{for_each, site_list, sites, Done};
+use crate::{deadlines, for_each, site_list, sites, Done};
 use check::{answer, Answer};
 use pack::names::{direction_name, field_name, kind_name, refusal_of, table_name, Value};
 use std::collections::BTreeMap;
@@ -10,6 +10,7 @@ pub fn print(corpus: &str) -> Done {
     let mut answers = Counts::new();
     let mut signatures = Counts::new();
     let mut missing = Counts::new();
+    let mut of_deadlines: Counts = deadlines::all().into_iter().map(|name| (name, 0)).collect();
     let mut met = Counts::new();
     let cut = for_each(corpus, |_, case| {
         let answer = answer(&case);
@@ -20,6 +21,9 @@ pub fn print(corpus: &str) -> Done {
         if let (Some(table), Answer::Refused(numbers)) = (sites::short_table(&case, &answer), &answer) {
             count(&mut missing, table);
             count(&mut missing, how_far(numbers).into());
+        }
+        for said in deadlines::of(&case) {
+            count(&mut of_deadlines, said);
         }
         if let Some(site) = sites::of(&case, &answer) {
             count(&mut met, site);
@@ -32,6 +36,8 @@ pub fn print(corpus: &str) -> Done {
     table(&signatures);
     println!("\n12 by its target table and its station, and by the row that it misses");
     table(&missing);
+    println!("\ndeadlines, and which of two faults comes first");
+    table(&of_deadlines);
     Ok(site_table(&met) && !missing.contains_key(THERE))
 }
 

@@ -1,4 +1,4 @@
-//! The layout of the 25 kinds of record, as data (document 01, "The pack").
+//! The layout of the 26 kinds of record, as data (document 01, "The pack"; of deadlines document 02, Wish 12).
 use std::sync::OnceLock;
 
 /// What a field holds: one number, or two that belong together.
@@ -101,6 +101,7 @@ pub const SCOPES: u8 = 7;
 pub const TRIGGERS: u8 = 8;
 pub const ROUTES: u8 = 23;
 pub const BINDINGS: u8 = 24;
+pub const DEADLINES: u8 = 25;
 
 /// Byte 2 of an action.
 pub const TIMER: u8 = 2;
@@ -120,7 +121,7 @@ const LIFECYCLE: &[Field] = &[w("level"), key("reaction", REACTIONS), key("actio
 const PORT: &[Field] = &[key("port", PORTS)];
 const ACTION: &[Field] = &[key("action", ACTIONS)];
 
-pub const TABLES: [Table; 25] = [
+pub const TABLES: [Table; 26] = [
     table(
         "federate",
         7,
@@ -223,6 +224,7 @@ pub const TABLES: [Table; 25] = [
     list("shutdown_actions", ACTION),
     table("routes", 1, Second::Bits(3), &[id("boundary", 0), key("local_port", PORTS), d("delay")]),
     table("required_bindings", 1, Second::Kinds(4), &[id("id", 0)]),
+    list("deadlines", &[key("reaction", REACTIONS), d("nanoseconds")]),
 ];
 
 /// One number of a record: where it stands and whose it is.
@@ -262,14 +264,14 @@ fn place(fields: &'static [Field]) -> Vec<Number> {
 
 #[cfg(test)]
 mod tests {
-    /// Where the fields of each table end, counted by hand from document 01.
+    /// Where the fields of each table end, counted by hand from documents 01 and 02.
     #[test]
     fn ends() {
-        let ends: Vec<usize> = (0..25)
+        let ends: Vec<usize> = (0..super::TABLES.len() as u8)
             .map(|table| super::numbers(table).last().map(|last| last.at + last.bytes).unwrap())
             .collect();
         let by_hand =
-            [44, 48, 44, 32, 20, 56, 12, 64, 12, 8, 8, 8, 8, 8, 8, 16, 12, 16, 16, 16, 16, 16, 8, 24, 12];
+            [44, 48, 44, 32, 20, 56, 12, 64, 12, 8, 8, 8, 8, 8, 8, 16, 12, 16, 16, 16, 16, 16, 8, 24, 12, 16];
         assert_eq!(ends, by_hand);
     }
 }

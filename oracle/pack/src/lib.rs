@@ -1,4 +1,4 @@
-//! The pack, the corpus and the packing rules, from document 01.
+//! The pack, the corpus and the packing rules, from documents 01 and 02.
 pub mod corpus;
 pub mod layout;
 pub mod names;

@@ -75,7 +75,7 @@ const fn refusal(number: u64, name: &'static str, values: &'static [Value]) -> R
 
 const IDENTITY: &[Value] = &[Kind, INDEX, BIT, START, LENGTH];
 
-pub const REFUSALS: [Refusal; 22] = [
+pub const REFUSALS: [Refusal; 23] = [
     refusal(1, "length of the pack", &[]),
     refusal(2, "text too long", &[Plain("text")]),
     refusal(3, "table number unknown or out of place", &[RECORD]),
@@ -98,11 +98,12 @@ pub const REFUSALS: [Refusal; 22] = [
     refusal(25, "BindingPresenceMismatch", &[TABLE, INDEX, Field]),
     refusal(27, "DuplicateRouteHalf", &[BIT, START, LENGTH, Direction]),
     refusal(28, "RoutePairMismatch", &[BIT, START, LENGTH, Field]),
+    refusal(39, "ZeroDeadline", &[INDEX]),
 ];
 
 /// The refusal with this number.
 pub fn refusal_of(number: u64) -> &'static Refusal {
-    REFUSALS.iter().find(|refusal| refusal.number == number).expect("a refusal of document 01")
+    REFUSALS.iter().find(|refusal| refusal.number == number).expect("a refusal of documents 01 and 02")
 }
 
 /// A table's name by its number.

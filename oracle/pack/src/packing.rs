@@ -1,4 +1,4 @@
-//! The packing rules of document 01: refusals 1 to 6.
+//! The packing rules of documents 01 and 02: refusals 1 to 6.
 use crate::corpus::{Case, Kind};
 use crate::layout::{numbers, Second, ACTIONS, ENCLAVE, FEDERATE, REACTORS, TABLES, TIMER};
 use crate::row::Row;
