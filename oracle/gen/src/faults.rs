@@ -5,6 +5,9 @@ use pack::layout::{numbers, TABLES};
 use pack::row::Row;
 use pack::RECORD;
 
+/// Tables are numbered below it.
+const KNOWN: u64 = TABLES.len() as u64;
+
 /// One or two packing faults.
 pub fn spoil(rng: &mut Rng, case: &mut Case) {
     for _ in 0..rng.between(1, 2) {
@@ -56,9 +59,9 @@ fn order(rng: &mut Rng, case: &mut Case) {
         return;
     };
     match rng.below(6) {
-        0 => case.pack[at] = rng.between(25, 255) as u8,
-        1 => case.pack[at] = 25,
-        2 => case.pack[at] = rng.below(25) as u8,
+        0 => case.pack[at] = rng.between(KNOWN, 255) as u8,
+        1 => case.pack[at] = KNOWN as u8,
+        2 => case.pack[at] = rng.below(KNOWN) as u8,
         3 => drop(case.pack.drain(at..at + RECORD)),
         4 => {
             let record = case.pack[at..at + RECORD].to_vec();

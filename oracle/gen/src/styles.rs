@@ -1,5 +1,6 @@
 //! The styles of cases, and how often each is taken.
 use crate::damage::{damage, spoil_row};
+use crate::deadlines;
 use crate::deep::deep;
 use crate::line::{grown, Extent};
 use crate::plan::{Size, SMALL};
@@ -30,9 +31,12 @@ pub const STYLES: [Style; 9] = [
     Style { name: "faults", weight: 80, make: packing },
 ];
 
+const ALL: &[&str] = &["grown", "damaged", "rows", "bytes", "tiny", "routes", "text", "ends", "faults"];
+
 /// Filters that name several styles, with the kind of case that they are held to.
-const GROUPS: [(&str, &[&str], Option<Kind>); 4] = [
-    ("all", &["grown", "damaged", "rows", "bytes", "tiny", "routes", "text", "ends", "faults"], None),
+const GROUPS: [(&str, &[&str], Option<Kind>); 5] = [
+    ("all", ALL, None),
+    ("deadlines", ALL, None),
     ("station", &["grown", "damaged", "rows", "tiny", "routes", "text"], Some(Kind::Enclave)),
     ("line", &["grown", "damaged", "rows", "tiny", "routes", "text"], Some(Kind::Federate)),
     ("packing", &["bytes", "text", "ends", "faults"], None),
@@ -45,6 +49,8 @@ pub struct Mix {
     /// Long texts and packs at the limit now and then.
     rarities: bool,
     special: Option<fn(&mut Rng, Kind) -> Case>,
+    /// How many of 1,000 cases are given deadlines.
+    with_deadlines: u64,
 }
 
 impl Mix {
@@ -59,11 +65,29 @@ impl Mix {
             _ => None,
         };
         let rarities = name == "all" || name == "packing";
-        (special.is_some() || !styles.is_empty()).then_some(Mix { styles, kind, rarities, special })
+        let with_deadlines = match name {
+            "deadlines" => 1000,
+            "deep" => 0,
+            _ => 460,
+        };
+        let mix = Mix { styles, kind, rarities, special, with_deadlines };
+        (special.is_some() || !mix.styles.is_empty()).then_some(mix)
     }
 
     /// Case `index` of `seed`.
     pub fn case(&self, seed: u64, index: u64) -> Case {
+        let mut case = self.without_deadlines(seed, index);
+        let mut rng = deadlines::stream(seed, index);
+        if rng.chance(self.with_deadlines, 1000) {
+            if self.kind != Some(Kind::Enclave) && self.special.is_none() && rng.chance(1, 8) {
+                case = long_line(&mut rng);
+            }
+            deadlines::add(&mut rng, &mut case);
+        }
+        case
+    }
+
+    fn without_deadlines(&self, seed: u64, index: u64) -> Case {
         let mut rng = Rng::of_case(seed, index);
         let of_line = rng.chance(2, 5);
         let kind = self.kind.unwrap_or(if of_line { Kind::Federate } else { Kind::Enclave });
@@ -183,6 +207,18 @@ fn at_the_limit(rng: &mut Rng, kind: Kind) -> Case {
     let filler = vec![Row::new(13, &[0]); count];
     let rows = [&rows[..at], &filler, &rows[at..]].concat();
     case(kind, &rows, texts)
+}
+
+/// Two to four stations with reactions, half of the lines damaged.
+fn long_line(rng: &mut Rng) -> Case {
+    let (stations, boundaries) = (rng.between(2, 4), rng.below(3));
+    let doubled = rng.chance(1, 4);
+    let (mut rows, mut texts) =
+        grown(rng, Kind::Federate, Extent { size: SMALL, stations, boundaries, doubled });
+    if rng.chance(1, 2) {
+        damage(rng, &mut rows, &mut texts, None);
+    }
+    case(Kind::Federate, &rows, texts)
 }
 
 /// Images with hundreds of scopes and routes, half of them damaged.

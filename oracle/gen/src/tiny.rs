@@ -25,7 +25,7 @@ pub fn tiny(rng: &mut Rng, kind: Kind) -> (Vec<Row>, Texts) {
 }
 
 fn station(rng: &mut Rng, rows: &mut Vec<Row>, texts: &Texts) {
-    let mut lengths = [0; 25];
+    let mut lengths = [0; BINDINGS as usize + 1];
     for length in &mut lengths[2..] {
         *length = if rng.chance(1, 3) { rng.between(1, 2) } else { 0 };
     }
