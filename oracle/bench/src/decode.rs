@@ -2,14 +2,17 @@
 use boomerang_runtime::image::*;
 use boomerang_runtime::CompiledModeEffectRef;
 use pack::corpus::Case;
-use pack::layout::{ACTIONS, BINDINGS, ENCLAVE, FEDERATE, MODES, PORTS, REACTIONS, REACTORS, ROUTES, SCOPES};
+use pack::layout::{
+    ACTIONS, BINDINGS, DEADLINES, ENCLAVE, FEDERATE, MODES, PORTS, REACTIONS, REACTORS, ROUTES, SCOPES,
+    TABLES,
+};
 use pack::RECORD;
 use tinymap::Key;
 
 type Record = [u8; RECORD];
 
 /// How many rows of each table there are.
-type Lengths = [usize; 25];
+type Lengths = [usize; TABLES.len()];
 
 /// The lent texts.
 #[derive(Clone, Copy)]
@@ -23,6 +26,12 @@ struct Station<'a> {
     bounds: StorageBounds,
     /// Where its rows start in each table.
     from: Lengths,
+}
+
+/// A row of table 25, which boomerang's tables do not have.
+struct Deadline {
+    reaction: ReactionIndex,
+    nanoseconds: u64,
 }
 
 /// The rows of all stations, table by table.
@@ -53,6 +62,7 @@ pub struct Tables<'a> {
     shutdown_actions: Vec<ActionIndex>,
     routes: Vec<RouteImage<'a>>,
     required_bindings: Vec<RequiredBindingImage<'a>>,
+    deadlines: Vec<Deadline>,
     lengths: Lengths,
 }
 
@@ -100,6 +110,7 @@ impl<'a> Tables<'a> {
             22 => self.shutdown_actions.extend(run.iter().map(action_key)),
             ROUTES => add(&mut self.routes, run, |record| route(record, texts))?,
             BINDINGS => add(&mut self.required_bindings, run, |record| binding(record, texts))?,
+            DEADLINES => self.deadlines.extend(run.iter().map(deadline)),
             _ => return None,
         }
         Some(())
@@ -119,6 +130,22 @@ impl<'a> Tables<'a> {
 
     pub fn images(&self) -> Vec<EnclaveImage<'_>> {
         (0..self.stations.len()).map(|station| self.image(station)).collect()
+    }
+
+    /// Whether each deadline names a reaction of its station, in rising order, and none is zero: what the Rust's check
+    /// does not ask.
+    pub fn deadlines_pass(&self) -> bool {
+        self.deadlines.is_empty() || (0..self.stations.len()).all(|station| self.deadlines_of_pass(station))
+    }
+
+    fn deadlines_of_pass(&self, station: usize) -> bool {
+        let from = &self.stations[station].from;
+        let to = self.stations.get(station + 1).map_or(&self.lengths, |next| &next.from);
+        let [reactions, deadlines] =
+            [REACTIONS, DEADLINES].map(|table| from[table as usize]..to[table as usize]);
+        let (reactions, deadlines) = (reactions.len(), &self.deadlines[deadlines]);
+        deadlines.iter().all(|row| (row.reaction.as_u32() as usize) < reactions && row.nanoseconds != 0)
+            && deadlines.windows(2).all(|rows| rows[0].reaction.as_u32() < rows[1].reaction.as_u32())
     }
 
     pub fn image(&self, station: usize) -> EnclaveImage<'_> {
@@ -289,6 +316,10 @@ fn startup(record: &Record) -> TimerStartupImage {
 
 fn lifecycle(record: &Record) -> LifecycleReactionImage {
     LifecycleReactionImage::new(level(record), ActionIndex::new(w(record, 12)))
+}
+
+fn deadline(record: &Record) -> Deadline {
+    Deadline { reaction: ReactionIndex::new(w(record, 4)), nanoseconds: d(record, 8) }
 }
 
 fn route<'a>(record: &Record, texts: Texts<'a>) -> Option<RouteImage<'a>> {

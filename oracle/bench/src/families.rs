@@ -1,6 +1,6 @@
 //! The families of packs and their sizes.
 use crate::sample::Sample;
-use crate::{long, refused, routes, stations, wide};
+use crate::{deadlines, long, refused, routes, stations, wide};
 
 pub struct Family {
     pub name: &'static str,
@@ -15,7 +15,7 @@ pub struct Family {
 const SIZES: &[usize] = &[35, 256, 1024, 4096, 16_384, 65_536];
 const FROM_FOUR: &[usize] = &[4, 16, 256, 4096, 16_384, 65_536];
 
-pub const FAMILIES: [Family; 16] = [
+pub const FAMILIES: [Family; 17] = [
     family("smallest", "a line without stations, the smallest station, that in a line", &[1, 4, 5], smallest),
     family(
         "wide",
@@ -34,6 +34,7 @@ pub const FAMILIES: [Family; 16] = [
     ),
     family("routes-two", "all paired across two stations", SIZES, routes::across_two),
     family("routes-many", "all paired across stations of ten routes", SIZES, routes::across_many),
+    family("deadlines", "one station of reactions, each with a deadline", SIZES, deadlines::station),
     family("long-bindings", "beginnings of one ASCII text", FROM_FOUR, long::ascii_bindings),
     family("long-mixed", "beginnings of one text of one to four bytes a scalar", MIXED, long::mixed_bindings),
     family(

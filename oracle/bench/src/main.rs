@@ -1,5 +1,6 @@
 //! Measures boomerang's Rust and this check on the same packs: bench [FAMILY..] [--quick]
 mod chance;
+mod deadlines;
 mod decode;
 mod edges;
 mod families;
@@ -9,10 +10,10 @@ mod measure;
 mod names;
 mod packs;
 mod refused;
-mod routes;
 #[allow(dead_code)]
 #[path = "../../gen/src/rng.rs"]
 mod rng;
+mod routes;
 mod rows;
 mod rules;
 mod rust;

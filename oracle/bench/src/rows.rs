@@ -5,6 +5,7 @@ use pack::row::Row;
 
 /// Byte 2 of a binding.
 pub const STATE: u8 = 0;
+pub const REACTION: u8 = 1;
 pub const PORT: u8 = 2;
 
 pub fn federate(id: Place, stations: u64) -> Row {
