@@ -80,7 +80,8 @@ function refused(n) {
   if (n <= 14) return of_references(n)
   if (n <= 18) return of_rows(n)
   if (n <= 21) return of_identities(n)
-  return n <= 25 ? of_reactors_and_bindings(n) : of_routes(n)
+  if (n <= 25) return of_reactors_and_bindings(n)
+  return n <= 28 ? of_routes(n) : of_deadlines(n)
 }
 
 function of_packing(n, record) {
@@ -104,7 +105,7 @@ function of_references(n) {
 
 function of_rows(n) {
   if (n == 15 && has(2)) return row() " is out of order: " (name("table", $3) == "routes" ? "the inbound half of a boundary comes before its outbound half." : "it belongs before the entry before it.")
-  if (n == 16 && has(2)) return row() " repeats the entry before it."
+  if (n == 16 && has(2)) return row() (name("table", $3) == "deadlines" ? " is for the reaction of the entry before it." : " repeats the entry before it.")
   if (n == 17 && has(3)) return field() " does not fit its owner: " name("ownership", $5) "."
   if (n == 18 && has(1)) return "The parents of scopes[" $3 "] lead into a cycle."
   return ""
@@ -131,5 +132,10 @@ function of_routes(n) {
   if (!has(4)) return ""
   if (n == 27) return "The boundary " place(3) " has more than one " name("direction", $6) " half."
   if (n == 28) return "The two halves of the boundary " place(3) " differ in " name("field", $6) "."
+  return ""
+}
+
+function of_deadlines(n) {
+  if (n == 39 && has(1)) return "The deadline in row " $3 " of deadlines is zero; it must be at least one nanosecond."
   return ""
 }
