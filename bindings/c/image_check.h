@@ -17,7 +17,8 @@ extern "C" {
  *
  * The result says how many of `numbers` hold the answer, from 1 to 7 (7 for refusals 12 and 13); the others of the eight are set to 0.
  *   numbers[0] is 0: accepted. Then follow, for an enclave, the links (result 2); for a federate, the stations and the links (result 3).
- *   numbers[0] is not 0: refused. It is the refusal's number, and the numbers that it carries follow. docs/REFUSALS.md lists them.
+ *   numbers[0] is not 0: refused. It is the refusal's number, from 1 to 39, and the numbers that it carries follow. docs/REFUSALS.md lists
+ *   them. Tables are numbered 0 to 25, as in the pack; 25 are the deadlines, which may be left out.
  * The program `replay` prints these numbers: `accepted` and those after the 0, or `refused` and all of them.
  *
  * Proved (crates/image_check, exported by crates/image_check_c): for any three strings of bytes, whatever their lengths and contents, the

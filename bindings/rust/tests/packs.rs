@@ -29,6 +29,16 @@ fn rooted(scope: u32, scopes: u32) -> Vec<u8> {
     pack
 }
 
+/// S with two reactions and these deadlines: reaction and nanoseconds. The batch text starts with `abc`.
+fn timed(deadlines: &[[u32; 2]]) -> Vec<u8> {
+    let s = station(1, 1);
+    let reaction = |level| record(5, [0, 0], &[0, 0, level, 1]);
+    let binding = record(24, [0, 1], &[2, 1]);
+    let mut pack = [&s[..128], &reaction(0)[..], &reaction(1), &s[128..], &binding].concat();
+    deadlines.iter().for_each(|[reaction, low]| pack.extend(record(25, [0, 0], &[*reaction, 0, *low])));
+    pack
+}
+
 /// The record of a line of so many stations, whose batch text has `f` at 2.
 fn federate(stations: u32) -> Vec<u8> {
     record(0, [0, 0], &[2, 1, 2, 1, 2, 1, 0, 0, 0, stations])
@@ -88,6 +98,23 @@ fn missing_rows() {
     }
     let line = [federate(2), station(1, 3), rooted(41, 2)].concat();
     assert_eq!(check_federate(&line, b"abf", b"").to_string(), "refused 12 2 0 3 7 41 2");
+}
+
+#[test]
+fn deadlines() {
+    let answer = |deadlines: &[[u32; 2]]| check_enclave(&timed(deadlines), b"abc", b"").to_string();
+    assert_eq!(answer(&[]), "accepted 0");
+    assert_eq!(answer(&[[0, 1], [1, u32::MAX]]), "accepted 0");
+    assert_eq!(answer(&[[0, 1], [2, 0]]), "refused 12 25 1 27 5 2 2");
+    assert_eq!(answer(&[[1, 1], [1, 0]]), "refused 16 25 1");
+    assert_eq!(answer(&[[1, 1], [0, 0]]), "refused 15 25 1");
+    assert_eq!(answer(&[[0, 1], [1, 0]]), "refused 39 1");
+    let mut pack = timed(&[[0, 1]]);
+    let last = pack.len() - 64;
+    pack[last] = 26;
+    assert_eq!(check_enclave(&pack, b"abc", b"").to_string(), "refused 3 7");
+    let line = [federate(2), timed(&[[0, 1]]), timed(&[[0, 0]])].concat();
+    assert_eq!(check_federate(&line, b"abc", b"").to_string(), "refused 39 0");
 }
 
 #[test]
