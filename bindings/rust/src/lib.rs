@@ -30,7 +30,7 @@ pub struct Refusal {
 }
 
 impl Refusal {
-    /// The refusal's number, from 1 to 39: of the packing rules 1 to 6, of a deadline 12, 15, 16 or 39.
+    /// The refusal's number, from 1 to 39.
     pub fn number(&self) -> u64 {
         self.values[0]
     }
