@@ -14,7 +14,7 @@ use Rattle.scope_checks.specs.Scopes.{scope_checks}
 use Rattle.scope_checks.specs.Links.{cycle_checks, links}
 use Rattle.enclave.specs.Passes.{Pass, head_passes, table_passes, row_passes, scope_passes, reaction_list_passes, scope_list_passes, entry_passes, enclave_list_passes, list_passes, passes, pass_checks, checks_of, enclave_checks}
 use Rattle.answers.specs.Numbers.{numbers}
-use Rattle.enclave.specs.Answer.{answer_numbers, image_result, unless, image_answer, pack_image, enclave_answer}
+use Rattle.enclave.specs.Answer.{answer_numbers, image_result, unless, image_answer, pack_image, enclave_answer, starts_left}
 
 pub checks_append : (m : Image) (fs gs : List Pass) → checks_of m (fs ++ gs) ≡ checks_of m fs ++ checks_of m gs
 unfolding checks_of
@@ -95,6 +95,14 @@ module _ (p batch house : List ℕ) where
   pub packing_refused : {r : Refusal} → first (packing_checks Enclave p batch house) ≡ Err r → enclave_answer p batch house ≡ numbers r
   unfolding enclave_answer
   packing_refused e = rw e refl
+
+  pub starts_stay : {r : Refusal} (old : List ℕ) → first (packing_checks Enclave p batch house) ≡ Err r → starts_left p batch house old ≡ old
+  unfolding starts_left
+  starts_stay old e = rw e refl
+
+  pub starts_found : (old : List ℕ) → first (packing_checks Enclave p batch house) ≡ passed → starts_left p batch house old ≡ table_starts p 1
+  unfolding starts_left
+  starts_found old e = rw e refl
 
   pub packed_answer : first (packing_checks Enclave p batch house) ≡ passed → enclave_answer p batch house ≡ answer_numbers (image_result (pack_image p batch house))
   unfolding enclave_answer image_answer image_result

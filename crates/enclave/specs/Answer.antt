@@ -35,3 +35,12 @@ pack_image p batch house = image p batch house (table_starts p 1) 0
 -- the answer for a pack: packing first
 unfoldable pub enclave_answer : List ℕ → List ℕ → List ℕ → List ℕ
 enclave_answer p batch house = unless (first (packing_checks Enclave p batch house)) (image_answer (pack_image p batch house))
+
+-- what a pass leaves, or what was there
+abbrev pub left_by : Outcome → List ℕ → List ℕ → List ℕ
+left_by (Ok u) found old = found
+left_by (Err r) found old = old
+
+-- what lent starts hold after the check: where the pack's tables begin, if it passes packing, and else what they held
+unfoldable pub starts_left : List ℕ → List ℕ → List ℕ → List ℕ → List ℕ
+starts_left p batch house old = left_by (first (packing_checks Enclave p batch house)) (table_starts p 1) old

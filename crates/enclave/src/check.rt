@@ -1,7 +1,8 @@
 // The check of an enclave: packing, then the passes, with the links of its scopes.
-ghost use Rattle.std.specs.Prelude.{◌≡◌};
+ghost use Rattle.std.specs.Prelude.{◌≡◌, ◌<◌, length, IfOk};
+ghost use Rattle.schema.specs.Bytes.{Whole};
 ghost use Rattle.checks.specs.Image.{image_of};
-ghost use Rattle.enclave.specs.Answer.{answer_numbers, image_result, enclave_answer};
+ghost use Rattle.enclave.specs.Answer.{answer_numbers, image_result, enclave_answer, starts_left};
 
 use crate::passes::{check_lists, check_rows};
 use answers::Refusal;
@@ -9,7 +10,7 @@ use identity::texts::Texts;
 use packing::PackKind;
 use packing::rules::checked_pack;
 use packing::starts::{enclave, table_starts};
-use schema::lent::Enclave;
+use schema::lent::{Enclave, TableStarts};
 use scope_checks::links::check_parents;
 use scope_checks::scopes::check_scopes;
 
@@ -24,12 +25,27 @@ pub fn check_image(e: &Enclave) -> Result<u64, Refusal>
     Ok(links)
 }
 
+// The answer for an enclave pack and its two texts, with where its tables begin left in `starts` where packing passes: for what is asked of an accepted
+// enclave after its check.
+pub fn check_enclave_starts(
+    pack: &[u8],
+    batch: &[u8],
+    house: &[u8],
+    starts: &mut TableStarts,
+) -> Result<u64, Refusal>
+    ensures answer { answer_numbers result ≡ enclave_answer pack.now batch.now house.now }
+    ensures starts { starts.new.firsts ≡ starts_left pack.now batch.now house.now starts.old.firsts }
+    ensures packed { IfOk result (λ links. Whole pack.now × (0 < length pack.now)) }
+{
+    let texts = Texts { batch, house };
+    let pack = checked_pack(PackKind::Enclave, pack, texts)?;
+    *starts = table_starts(pack.bytes, 1);
+    check_image(&enclave(pack, starts, texts))
+}
+
 // The answer of `EnclaveImageView::new` for an enclave pack and its two texts, as a host lends them: the links, or the first fault.
 pub fn check_enclave(pack: &[u8], batch: &[u8], house: &[u8]) -> Result<u64, Refusal>
     ensures { answer_numbers result ≡ enclave_answer pack.now batch.now house.now }
 {
-    let texts = Texts { batch, house };
-    let pack = checked_pack(PackKind::Enclave, pack, texts)?;
-    let starts = table_starts(pack.bytes, 1);
-    check_image(&enclave(pack, &starts, texts))
+    check_enclave_starts(pack, batch, house, &mut TableStarts::none())
 }

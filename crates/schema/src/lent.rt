@@ -1,5 +1,5 @@
 // A lent pack of whole records, where the tables of an enclave begin in it, and a lent enclave.
-ghost use Rattle.std.specs.Prelude.{◌≡◌, ◌+◌, ◌/◌, ◌^◌, ◌<◌, ◌≤◌, length, MatchOption};
+ghost use Rattle.std.specs.Prelude.{◌≡◌, ◌+◌, ◌/◌, ◌^◌, ◌<◌, ◌≤◌, suc, length, replicate, MatchOption};
 ghost use Rattle.schema.specs.Bytes.{Whole};
 ghost use Rattle.schema.specs.Records.{records_of, is_of, count_below};
 ghost use Rattle.schema.specs.Tables.{start_of, rows_of, IsRising, EndsInside, tables};
@@ -88,6 +88,15 @@ pub fn row_number(firsts: &[u32; TABLES + 1], table: u8, i: usize) -> usize
 }
 
 impl TableStarts {
+    // Where the tables of no enclave begin: for lending.
+    pub fn none() -> TableStarts
+        ensures { result.firsts ≡ replicate (suc tables) 0 }
+    {
+        TableStarts {
+            firsts: [0; TABLES + 1],
+        }
+    }
+
     // How many rows a table has.
     pub fn rows(&self, table: u8) -> u32
         requires { table < tables }
