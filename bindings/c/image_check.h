@@ -44,6 +44,13 @@ uint32_t check_enclave_image(const uint8_t *pack, size_t pack_len, const uint8_t
 uint32_t check_federate_image(const uint8_t *pack, size_t pack_len, const uint8_t *batch, size_t batch_len,
                               const uint8_t *house, size_t house_len, uint64_t *numbers);
 
+/* The reactor that a mode of an accepted station belongs to: the only one whose span of modes holds it, which is the one that the mode names.
+ *
+ * All that is said above holds of this call too. The answer: 0 and the reactor (result 2); or the station's refusal, as check_enclave_image gives
+ * it; or, for an accepted station without such a mode, 12, 6, 0, 20, 6, the mode and how many modes there are (result 7). */
+uint32_t mode_owner_of_image(const uint8_t *pack, size_t pack_len, const uint8_t *batch, size_t batch_len, const uint8_t *house,
+                         size_t house_len, uint32_t mode, uint64_t *numbers);
+
 #ifdef __cplusplus
 }
 #endif

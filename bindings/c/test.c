@@ -47,19 +47,28 @@ static void print_numbers(const uint64_t *numbers, uint32_t from, uint32_t count
     putchar('\n');
 }
 
-/* The line of an answer. The numbers after it must be 0. */
-static void print_answer(const uint64_t *numbers, uint32_t count)
+/* The line of an answer, whose first word is `yes` where nothing refuses. The numbers after it must be 0. */
+static void print_answer(const char *yes, const uint64_t *numbers, uint32_t count)
 {
     if (count < 1 || count > 7)
         die("the result is not from 1 to 7");
     for (uint32_t i = count; i < 8; i++)
         if (numbers[i] != 0)
             die("a number after the answer is not 0");
-    fputs(numbers[0] == 0 ? "accepted" : "refused", stdout);
+    fputs(numbers[0] == 0 ? yes : "refused", stdout);
     print_numbers(numbers, numbers[0] == 0 ? 1 : 0, count);
 }
 
-/* Answers one case whose first 13 bytes are `head`; 0 where the input ends inside it. */
+/* The number that follows the parts of a question of this kind. */
+static uint32_t asked(uint8_t kind, int *whole)
+{
+    uint8_t bytes[4] = {0};
+    if (kind == 6 && fread(bytes, 1, sizeof bytes, stdin) != sizeof bytes)
+        *whole = 0;
+    return (uint32_t)length_at(bytes);
+}
+
+/* Answers one case whose first 13 bytes are `head`; 0 where the run ends with it. */
 static int answer_case(const uint8_t *head, int null_if_empty)
 {
     int whole = 1;
@@ -67,16 +76,21 @@ static int answer_case(const uint8_t *head, int null_if_empty)
     uint8_t *pack = part(p, null_if_empty, &whole);
     uint8_t *batch = part(b, null_if_empty, &whole);
     uint8_t *house = part(h, null_if_empty, &whole);
+    uint32_t mode = asked(head[0], &whole);
     uint64_t *numbers = exactly(8 * sizeof *numbers);
     memset(numbers, 0xA5, 8 * sizeof *numbers);
     if (!whole)
         puts("cut off");
     else if (head[0] == 0)
-        print_answer(numbers, check_enclave_image(pack, p, batch, b, house, h, numbers));
+        print_answer("accepted", numbers, check_enclave_image(pack, p, batch, b, house, h, numbers));
     else if (head[0] == 1)
-        print_answer(numbers, check_federate_image(pack, p, batch, b, house, h, numbers));
-    else
+        print_answer("accepted", numbers, check_federate_image(pack, p, batch, b, house, h, numbers));
+    else if (head[0] == 6)
+        print_answer("owner", numbers, mode_owner_of_image(pack, p, batch, b, house, h, mode, numbers));
+    else {
         puts("unknown kind");
+        whole = 0;
+    }
     free(pack);
     free(batch);
     free(house);

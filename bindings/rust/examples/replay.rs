@@ -1,6 +1,9 @@
 //! Answers a corpus on standard input as the program `replay` does (oracle/README.md has the format).
-use image_check::{check_enclave, check_federate};
+use image_check::{check_enclave, check_federate, mode_owner};
 use std::io::{self, Read, Write};
+
+/// The line of a case of no known kind, which ends the run.
+const UNKNOWN_KIND: &str = "unknown kind";
 
 /// The first n bytes of what is left, in memory of their own.
 fn take(rest: &mut &[u8], n: usize) -> Option<Box<[u8]>> {
@@ -9,10 +12,14 @@ fn take(rest: &mut &[u8], n: usize) -> Option<Box<[u8]>> {
     Some(part.into())
 }
 
-fn length(rest: &mut &[u8]) -> Option<usize> {
+fn number(rest: &mut &[u8]) -> Option<u32> {
     let (bytes, after) = rest.split_first_chunk()?;
     *rest = after;
-    Some(u32::from_be_bytes(*bytes) as usize)
+    Some(u32::from_be_bytes(*bytes))
+}
+
+fn length(rest: &mut &[u8]) -> Option<usize> {
+    number(rest).map(|n| n as usize)
 }
 
 /// The line of the next case, or nothing where the input ends inside it.
@@ -25,7 +32,8 @@ fn next(rest: &mut &[u8]) -> Option<String> {
     Some(match kind {
         0 => check_enclave(&pack, &batch, &house).to_string(),
         1 => check_federate(&pack, &batch, &house).to_string(),
-        _ => "unknown kind".to_string(),
+        6 => mode_owner(&pack, &batch, &house, number(rest)?).to_string(),
+        _ => UNKNOWN_KIND.to_string(),
     })
 }
 
@@ -36,7 +44,12 @@ fn main() -> io::Result<()> {
     let mut rest = &corpus[..];
     while !rest.is_empty() {
         match next(&mut rest) {
-            Some(line) => writeln!(out, "{line}")?,
+            Some(line) => {
+                writeln!(out, "{line}")?;
+                if line == UNKNOWN_KIND {
+                    break;
+                }
+            }
             None => {
                 writeln!(out, "cut off")?;
                 break;

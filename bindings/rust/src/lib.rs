@@ -46,11 +46,33 @@ impl fmt::Display for Answer {
         match self {
             Answer::Enclave { links } => write!(f, "accepted {links}"),
             Answer::Federate { enclaves, links } => write!(f, "accepted {enclaves} {links}"),
-            Answer::Refused(refusal) => {
-                write!(f, "refused")?;
-                refusal.numbers().iter().try_for_each(|n| write!(f, " {n}"))
-            }
+            Answer::Refused(refusal) => refusal.fmt(f),
         }
+    }
+}
+
+/// Whose mode it is. It is shown in the words of the program `replay`.
+#[derive(Clone, Copy, Debug, PartialEq, Eq)]
+pub enum Owner {
+    /// The only reactor whose span holds the mode, which is the one that the mode names.
+    Reactor(u32),
+    /// The station's first fault, or that it has no such mode.
+    Refused(Refusal),
+}
+
+impl fmt::Display for Owner {
+    fn fmt(&self, f: &mut fmt::Formatter<'_>) -> fmt::Result {
+        match self {
+            Owner::Reactor(reactor) => write!(f, "owner {reactor}"),
+            Owner::Refused(refusal) => refusal.fmt(f),
+        }
+    }
+}
+
+impl fmt::Display for Refusal {
+    fn fmt(&self, f: &mut fmt::Formatter<'_>) -> fmt::Result {
+        write!(f, "refused")?;
+        self.numbers().iter().try_for_each(|n| write!(f, " {n}"))
     }
 }
 
@@ -76,16 +98,32 @@ extern "C" {
         house_len: usize,
         numbers: *mut [u64; 8],
     ) -> u32;
+
+    fn mode_owner_of_image(
+        pack: *const u8,
+        pack_len: usize,
+        batch: *const u8,
+        batch_len: usize,
+        house: *const u8,
+        house_len: usize,
+        mode: u32,
+        numbers: *mut [u64; 8],
+    ) -> u32;
 }
 
 /// What a check wrote: how many numbers, and the numbers.
 fn numbers(check: Check, lent: [&[u8]; 3]) -> Refusal {
     let [pack, batch, house] = lent;
-    let mut written = [0; 8];
     // SAFETY: each pointer has its own slice's length, nothing writes a slice while it is lent, and `written` is this call's alone.
-    let len = unsafe {
-        check(pack.as_ptr(), pack.len(), batch.as_ptr(), batch.len(), house.as_ptr(), house.len(), &mut written)
-    } as usize;
+    written_by(|written| unsafe {
+        check(pack.as_ptr(), pack.len(), batch.as_ptr(), batch.len(), house.as_ptr(), house.len(), written)
+    })
+}
+
+/// What a call wrote into numbers of its own.
+fn written_by(call: impl FnOnce(&mut [u64; 8]) -> u32) -> Refusal {
+    let mut written = [0; 8];
+    let len = call(&mut written) as usize;
     // One by one: a plain copy reads two at once, and waits until both writes of 8 bytes have left the processor.
     // SAFETY: each is a reference to a number.
     let values = written.each_ref().map(|number| unsafe { std::ptr::read_volatile(number) });
@@ -107,5 +145,17 @@ pub fn check_federate(pack: &[u8], batch: &[u8], house: &[u8]) -> Answer {
     match refusal.values {
         [0, enclaves, links, ..] => Answer::Federate { enclaves, links },
         _ => Answer::Refused(refusal),
+    }
+}
+
+/// The reactor that a mode of a station belongs to.
+pub fn mode_owner(pack: &[u8], batch: &[u8], house: &[u8], mode: u32) -> Owner {
+    let [(p, p_len), (b, b_len), (h, h_len)] = [pack, batch, house].map(|part| (part.as_ptr(), part.len()));
+    // SAFETY: as in `numbers`.
+    let refusal =
+        written_by(|written| unsafe { mode_owner_of_image(p, p_len, b, b_len, h, h_len, mode, written) });
+    match refusal.values {
+        [0, reactor, ..] => Owner::Reactor(reactor as u32),
+        _ => Owner::Refused(refusal),
     }
 }

@@ -1,5 +1,5 @@
 //! A few packs by hand, and large ones on a stack of `STACK` bytes.
-use image_check::{check_enclave, check_federate, Answer, STACK};
+use image_check::{check_enclave, check_federate, mode_owner, Answer, Owner, STACK};
 
 /// A record: its table, its bytes 1 and 2, and the words from byte 4 on.
 fn record(table: u8, bits: [u8; 2], words: &[u32]) -> Vec<u8> {
@@ -115,6 +115,36 @@ fn deadlines() {
     assert_eq!(check_enclave(&pack, b"abc", b"").to_string(), "refused 3 7");
     let line = [federate(2), timed(&[[0, 1]]), timed(&[[0, 0]])].concat();
     assert_eq!(check_federate(&line, b"abc", b"").to_string(), "refused 39 0");
+}
+
+/// Three reactors, the second of which has no mode and each of the others one, with a scope of its own.
+fn moded() -> Vec<u8> {
+    let reactor = |root, start, len| record(2, [0, 0], &[0, 0, root, 0, start, 0, len]);
+    let scope = |reactor, mode: Option<u32>| {
+        record(7, [2 * mode.is_some() as u8, 0], &[0, reactor, mode.unwrap_or(0)])
+    };
+    [
+        vec![record(1, [0, 0], &[0, 1, 1]), reactor(0, 0, 1), reactor(1, 1, 0), reactor(2, 1, 1)],
+        vec![record(6, [0, 0], &[0, 3]), record(6, [0, 0], &[2, 4])],
+        vec![scope(0, None), scope(1, None), scope(2, None), scope(0, Some(0)), scope(2, Some(1))],
+        vec![record(24, [0, 0], &[1, 1])],
+    ]
+    .concat()
+    .concat()
+}
+
+#[test]
+fn owners_of_modes() {
+    let owner = |pack: &[u8], mode| mode_owner(pack, b"ab", b"", mode);
+    assert_eq!(check_enclave(&moded(), b"ab", b""), Answer::Enclave { links: 0 });
+    assert_eq!(owner(&moded(), 0), Owner::Reactor(0));
+    assert_eq!(owner(&moded(), 1), Owner::Reactor(2));
+    assert_eq!(owner(&moded(), 1).to_string(), "owner 2");
+    for mode in [2, 3, u32::MAX] {
+        assert_eq!(owner(&moded(), mode).to_string(), format!("refused 12 6 0 20 6 {mode} 2"));
+    }
+    assert_eq!(owner(&station(0, 1), 0).to_string(), "refused 23 2 0 0 0");
+    assert_eq!(owner(b"", 0).to_string(), "refused 1");
 }
 
 #[test]

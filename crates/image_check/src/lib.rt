@@ -1,14 +1,16 @@
-// Both checks as a host in another language asks them: the answer as document 01's numbers, in eight numbers that the host lends.
+// What a host in another language asks: each answer as the documents' numbers, in eight numbers that the host lends.
 #![tactic(auto)]
 
 ghost use Rattle.std.specs.Prelude.{◌≤◌, length};
 ghost use Rattle.enclave.specs.Answer.{enclave_answer};
 ghost use Rattle.federate.specs.Answer.{federate_answer};
+ghost use Rattle.mode_owner.specs.Owner.{owner_answer};
 ghost use Rattle.image_check.specs.Answered.{Answered};
 
 use enclave::check::check_enclave;
 use federate::FederateAccepted;
 use federate::check::check_federate;
+use mode_owner::mode_owner;
 
 // Writes the numbers of an answer into those that the host lends, zeros after them, and answers how many it has.
 // Numbers and a count: the host is C, which has no slices and no enums with fields.
@@ -47,6 +49,22 @@ pub fn check_federate_image<'a>(
 {
     match check_federate(pack, batch, house) {
         Ok(FederateAccepted { enclaves, links }) => put(&[0, u64::from(enclaves), links], numbers),
+        Err(refusal) => put(refusal.numbers().as_slice(), numbers),
+    }
+}
+
+// The reactor that a mode of an enclave pack belongs to: 0 and the reactor, or the refusal's numbers. The result is how many of `numbers` hold it.
+pub fn mode_owner_of_image<'a>(
+    pack: &'a [u8],
+    batch: &'a [u8],
+    house: &'a [u8],
+    mode: u32,
+    numbers: &mut [u64; 8],
+) -> u32
+    ensures { Answered (owner_answer pack.now batch.now house.now mode) result numbers.new }
+{
+    match mode_owner(pack, batch, house, mode) {
+        Ok(reactor) => put(&[0, u64::from(reactor.0)], numbers),
         Err(refusal) => put(refusal.numbers().as_slice(), numbers),
     }
 }

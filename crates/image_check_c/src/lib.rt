@@ -3,6 +3,7 @@
 
 ghost use Rattle.enclave.specs.Answer.{enclave_answer};
 ghost use Rattle.federate.specs.Answer.{federate_answer};
+ghost use Rattle.mode_owner.specs.Owner.{owner_answer};
 ghost use Rattle.image_check.specs.Answered.{Answered};
 
 // The answer for an enclave pack and its two texts; the result is how many of `numbers` hold it.
@@ -29,4 +30,18 @@ pub extern "C" fn check_federate_image<'a>(
     ensures { Answered (federate_answer pack.now batch.now house.now) result numbers.new }
 {
     image_check::check_federate_image(pack, batch, house, numbers)
+}
+
+// The reactor that a mode of an enclave pack belongs to; the result is how many of `numbers` hold the answer.
+#[unsafe(no_mangle)]
+pub extern "C" fn mode_owner_of_image<'a>(
+    pack: &'a [u8],
+    batch: &'a [u8],
+    house: &'a [u8],
+    mode: u32,
+    numbers: &mut [u64; 8],
+) -> u32
+    ensures { Answered (owner_answer pack.now batch.now house.now mode) result numbers.new }
+{
+    image_check::mode_owner_of_image(pack, batch, house, mode, numbers)
 }
