@@ -22,7 +22,7 @@ impl Sample {
 
     fn new(kind: u8, rows: &[Row], (batch, house): (Vec<u8>, Vec<u8>), expected: Answer) -> Self {
         let named = rows.iter().map(named).sum();
-        Sample { case: Case { kind, pack: pack(rows), batch, house }, expected, named }
+        Sample { case: Case { kind, pack: pack(rows), batch, house, ..Case::default() }, expected, named }
     }
 
     /// Bytes that have to be read: the pack and the identities where they are named.

@@ -7,8 +7,8 @@ pub enum Answer {
     Accepted { stations: Option<u64>, links: u64 },
     /// The refusal's number and the numbers after it.
     Refused(Vec<u64>),
-    /// The case says neither enclave nor federate.
-    UnknownKind,
+    /// The reactor that the mode asked belongs to.
+    Owner(u64),
 }
 
 impl fmt::Display for Answer {
@@ -22,7 +22,7 @@ impl fmt::Display for Answer {
                 write!(to, "refused")?;
                 numbers.iter().try_for_each(|number| write!(to, " {number}"))
             }
-            Answer::UnknownKind => write!(to, "unknown kind"),
+            Answer::Owner(reactor) => write!(to, "owner {reactor}"),
         }
     }
 }

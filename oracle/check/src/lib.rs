@@ -5,6 +5,7 @@ mod enclave;
 mod identities;
 mod links;
 mod numbers;
+mod owner;
 mod places;
 pub mod worth;
 
@@ -26,12 +27,14 @@ use pack::row::Row;
 
 /// The answer for one case.
 pub fn answer(case: &Case) -> Answer {
-    let Some(kind) = case.kind() else {
-        return Answer::UnknownKind;
-    };
-    match packing::check(case, kind) {
+    let kind = case.kind().expect("a kind that a corpus has");
+    let answer = match packing::check(case, kind) {
         Err(fault) => Answer::Refused(std::iter::once(fault.refusal).chain(fault.number).collect()),
         Ok(()) => after_packing(case, kind),
+    };
+    match (case.mode(), &answer) {
+        (Some(mode), Answer::Accepted { .. }) => owner::of(&rows(case), mode),
+        _ => answer,
     }
 }
 

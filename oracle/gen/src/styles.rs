@@ -7,8 +7,8 @@ use crate::plan::{Size, SMALL};
 use crate::rng::Rng;
 use crate::texts::Texts;
 use crate::{faults, identities, tiny};
-use pack::corpus::{Case, Kind};
-use pack::layout::ROUTES;
+use pack::corpus::{Case, Kind, OWNER};
+use pack::layout::{MODES, ROUTES};
 use pack::row::{pack, Row};
 use pack::{PACK_LIMIT, RECORD, TEXT_LIMIT};
 
@@ -54,7 +54,7 @@ pub struct Mix {
 }
 
 impl Mix {
-    /// The mix with this name: a group, a style, `large` or `deep`.
+    /// The mix with this name: a group, a style, `large`, `deep` or `owner`.
     pub fn named(name: &str) -> Option<Self> {
         let found = GROUPS.iter().find(|group| group.0 == name);
         let (names, kind) = found.map_or((vec![name], None), |group| (group.1.to_vec(), group.2));
@@ -62,6 +62,7 @@ impl Mix {
         let special: Option<fn(&mut Rng, Kind) -> Case> = match name {
             "large" => Some(large),
             "deep" => Some(deep_image),
+            "owner" => Some(owner),
             _ => None,
         };
         let rarities = name == "all" || name == "packing";
@@ -116,7 +117,7 @@ fn case(kind: Kind, rows: &[Row], texts: Texts) -> Case {
         Kind::Enclave => 0,
         Kind::Federate => 1,
     };
-    Case { kind, pack: pack(rows), batch: texts.batch, house: texts.house }
+    Case { kind, pack: pack(rows), batch: texts.batch, house: texts.house, rest: vec![] }
 }
 
 fn small_image(rng: &mut Rng, kind: Kind) -> (Vec<Row>, Texts) {
@@ -246,4 +247,19 @@ fn large(rng: &mut Rng, kind: Kind) -> Case {
 fn deep_image(rng: &mut Rng, kind: Kind) -> Case {
     let (rows, texts) = deep(rng, kind);
     case(kind, &rows, texts)
+}
+
+/// The owner of a mode is asked of a station whose spans hold none, one or several: of each mode, of those after the last,
+/// and of a station that is refused.
+fn owner(rng: &mut Rng, _: Kind) -> Case {
+    let size = Size { reactors: rng.between(1, 6), modes: 3, ..SMALL };
+    let extent = Extent { size, stations: 1, boundaries: 0, doubled: false };
+    let (mut rows, mut texts) = grown(rng, Kind::Enclave, extent);
+    if rng.chance(1, 4) {
+        damage(rng, &mut rows, &mut texts, None);
+    }
+    let modes = rows.iter().filter(|row| row.table == MODES).count() as u64;
+    let after = [modes, modes + 1, u64::from(u32::MAX)];
+    let mode = if modes == 0 || rng.chance(1, 4) { rng.pick(&after) } else { rng.below(modes) };
+    Case { kind: OWNER, rest: (mode as u32).to_be_bytes().into(), ..case(Kind::Enclave, &rows, texts) }
 }

@@ -48,6 +48,7 @@ fn group(line: &str) -> String {
         (Some("refused"), Some(number)) => format!("refused {number}"),
         (Some("accepted"), _) if line.split(' ').count() == 3 => "accepted (line)".into(),
         (Some("accepted"), _) => "accepted (station)".into(),
+        (Some("owner"), _) => "owner of a mode".into(),
         _ => line.into(),
     }
 }

@@ -86,7 +86,7 @@ impl Draft {
     }
 
     fn line_of(self, kind: u8, name: &'static str, expected: &'static str) -> Line {
-        let case = Case { kind, pack: pack(&self.rows), batch: self.batch, house: vec![] };
+        let case = Case { kind, pack: pack(&self.rows), batch: self.batch, ..Case::default() };
         Line { name, case, expected }
     }
 }

@@ -65,15 +65,19 @@ fn main() -> ExitCode {
 /// Whether all went as it should, or why it could not be tried.
 type Done = io::Result<bool>;
 
-/// Calls `each` with every whole case and its number; true where the corpus was cut off.
-fn for_each(corpus: &str, mut each: impl FnMut(u64, Case) -> io::Result<()>) -> io::Result<bool> {
+/// The line that a corpus ends with where it does not end after a case; none where it does.
+type Ended = Option<&'static str>;
+
+/// Calls `each` with every whole case and its number, up to one of no known kind.
+fn for_each(corpus: &str, mut each: impl FnMut(u64, Case) -> io::Result<()>) -> io::Result<Ended> {
     let mut cases = Corpus(BufReader::with_capacity(1 << 20, File::open(corpus)?));
     let mut number = 0;
     loop {
         match cases.read()? {
             Next::Case(case) => each(number, case)?,
-            Next::CutOff => return Ok(true),
-            Next::End => return Ok(false),
+            Next::CutOff => return Ok(Some("cut off")),
+            Next::UnknownKind => return Ok(Some("unknown kind")),
+            Next::End => return Ok(None),
         }
         number += 1;
     }
@@ -96,9 +100,9 @@ fn one(corpus: &str, number: &str) -> io::Result<Case> {
 
 fn answers(corpus: &str) -> Done {
     let mut out = BufWriter::new(io::stdout().lock());
-    let cut = for_each(corpus, |_, case| writeln!(out, "{}", answer(&case)))?;
-    if cut {
-        writeln!(out, "cut off")?;
+    let ended = for_each(corpus, |_, case| writeln!(out, "{}", answer(&case)))?;
+    if let Some(line) = ended {
+        writeln!(out, "{line}")?;
     }
     out.flush()?;
     Ok(true)

@@ -21,10 +21,18 @@ type Groups = fn(&Case, &Answer) -> Vec<String>;
 
 /// Every site, each length and place of 12, and all that is said of deadlines.
 pub fn all(case: &Case, answer: &Answer) -> Vec<String> {
-    let site = sites::of(case, answer).unwrap_or_else(|| format!("accepted {}", case.kind));
+    let site = sites::of(case, answer).unwrap_or_else(|| without_site(case, answer));
     let mut groups = deadlines::of(case);
     groups.extend([Some(site), sites::short_table(case, answer)].into_iter().flatten());
     groups
+}
+
+fn without_site(case: &Case, answer: &Answer) -> String {
+    match answer {
+        Answer::Accepted { .. } => format!("accepted {}", case.kind),
+        Answer::Owner(_) => "owner".into(),
+        Answer::Refused(_) => "no such mode".into(),
+    }
 }
 
 /// Of cases with deadlines: what is said of these, and their sites.

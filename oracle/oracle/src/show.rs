@@ -1,7 +1,7 @@
 //! A case record by record in words, with its answer.
 use crate::{one, sites, Done};
 use check::{answer, Answer};
-use pack::corpus::Case;
+use pack::corpus::{Case, Kind};
 use pack::layout::{numbers, Shape, ACTIONS, BINDINGS, REACTIONS, ROUTES, TABLES};
 use pack::names::{direction_name, field_name, kind_name, refusal_of, table_name, Value};
 use pack::row::Row;
@@ -13,8 +13,12 @@ const MOST: usize = 400;
 
 pub fn print(corpus: &str, number: &str) -> Done {
     let case = one(corpus, number)?;
-    let kind = ["station (enclave)", "line (federate)"].get(case.kind as usize).unwrap_or(&"unknown kind");
-    println!("case {number}: {kind}, {} bytes of pack", case.pack.len());
+    let kind = match case.kind() {
+        Some(Kind::Federate) => "line (federate)",
+        _ => "station (enclave)",
+    };
+    let asked = case.mode().map_or(String::new(), |mode| format!(", the owner of mode {mode}"));
+    println!("case {number}: {kind}{asked}, {} bytes of pack", case.pack.len());
     println!("batch, {} bytes: {}", case.batch.len(), shown(&case.batch));
     println!("house, {} bytes: {}", case.house.len(), shown(&case.house));
     records(&case);

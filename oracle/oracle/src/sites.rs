@@ -9,11 +9,14 @@ use pack::names::{direction_name, field_name, kind_name, table_name};
 use pack::packing;
 use pack::row::Row;
 
-/// The name of the site; none for an answer that is no refusal.
+/// The name of the site; none for an answer that is no refusal, and for that of a mode asked that is not there.
 pub fn of(case: &Case, answer: &Answer) -> Option<String> {
     let Answer::Refused(numbers) = answer else {
         return None;
     };
+    if case.mode().is_some() && numbers.starts_with(&[12, 6, 0, 20, 6]) {
+        return None;
+    }
     if let Err(fault) = packing::check(case, case.kind()?) {
         return Some(packing_site(&fault));
     }

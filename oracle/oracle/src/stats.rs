@@ -12,7 +12,7 @@ pub fn print(corpus: &str) -> Done {
     let mut missing = Counts::new();
     let mut of_deadlines: Counts = deadlines::all().into_iter().map(|name| (name, 0)).collect();
     let mut met = Counts::new();
-    let cut = for_each(corpus, |_, case| {
+    let ended = for_each(corpus, |_, case| {
         let answer = answer(&case);
         count(&mut answers, group(&answer, case.kind));
         if let Answer::Refused(numbers) = &answer {
@@ -30,7 +30,11 @@ pub fn print(corpus: &str) -> Done {
         }
         Ok(())
     })?;
-    println!("answers ({} cases{})", answers.values().sum::<u64>(), if cut { ", cut off" } else { "" });
+    println!(
+        "answers ({} cases{})",
+        answers.values().sum::<u64>(),
+        ended.map_or(String::new(), |line| format!(", {line}"))
+    );
     table(&answers);
     println!("\nrefusal, table and field");
     table(&signatures);
@@ -56,7 +60,7 @@ fn group(answer: &Answer, kind: u8) -> String {
     match answer {
         Answer::Accepted { .. } => format!("accepted, {kind}"),
         Answer::Refused(numbers) => format!("refused {:02} {}", numbers[0], refusal_of(numbers[0]).name),
-        other => other.to_string(),
+        Answer::Owner(_) => "owner of a mode".into(),
     }
 }
 

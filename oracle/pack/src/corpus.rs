@@ -8,22 +8,43 @@ pub enum Kind {
     Federate,
 }
 
-/// A pack with its two texts; `kind` is 0 for an enclave and 1 for a federate.
+/// The kinds of question: the check of a station, that of a line, and the owner of a mode.
+pub const STATION: u8 = 0;
+pub const LINE: u8 = 1;
+pub const OWNER: u8 = 6;
+
+/// How many bytes follow a question's parts; none for a kind that is not known.
+fn rest_length(kind: u8) -> Option<u64> {
+    match kind {
+        STATION | LINE => Some(0),
+        OWNER => Some(4),
+        _ => None,
+    }
+}
+
+/// A question: its kind, a pack with its two texts, and what follows them.
 #[derive(Clone, Debug, Default, PartialEq, Eq)]
 pub struct Case {
     pub kind: u8,
     pub pack: Vec<u8>,
     pub batch: Vec<u8>,
     pub house: Vec<u8>,
+    pub rest: Vec<u8>,
 }
 
 impl Case {
     pub fn kind(&self) -> Option<Kind> {
         match self.kind {
-            0 => Some(Kind::Enclave),
-            1 => Some(Kind::Federate),
+            STATION | OWNER => Some(Kind::Enclave),
+            LINE => Some(Kind::Federate),
             _ => None,
         }
+    }
+
+    /// The mode that is asked, where one is.
+    pub fn mode(&self) -> Option<u32> {
+        let rest: [u8; 4] = self.rest[..].try_into().ok()?;
+        (self.kind == OWNER).then(|| u32::from_be_bytes(rest))
     }
 
     /// The part of the batch text, or of the house text where `house` is 1.
@@ -35,7 +56,7 @@ impl Case {
 
     /// Bytes of the case in a corpus.
     pub fn size(&self) -> usize {
-        13 + self.pack.len() + self.batch.len() + self.house.len()
+        13 + self.pack.len() + self.batch.len() + self.house.len() + self.rest.len()
     }
 
     pub fn write(&self, to: &mut impl Write) -> io::Result<()> {
@@ -46,7 +67,7 @@ impl Case {
         for part in [&self.pack, &self.batch, &self.house] {
             to.write_all(part)?;
         }
-        Ok(())
+        to.write_all(&self.rest)
     }
 }
 
@@ -54,6 +75,7 @@ impl Case {
 pub enum Next {
     Case(Case),
     CutOff,
+    UnknownKind,
     End,
 }
 
@@ -77,7 +99,14 @@ impl<R: Read> Corpus<R> {
             }
         }
         let [pack, batch, house] = parts;
-        Ok(Next::Case(Case { kind: head[0], pack, batch, house }))
+        let Some(length) = rest_length(head[0]) else {
+            return Ok(Next::UnknownKind);
+        };
+        let rest = self.take(length)?;
+        if (rest.len() as u64) < length {
+            return Ok(Next::CutOff);
+        }
+        Ok(Next::Case(Case { kind: head[0], pack, batch, house, rest }))
     }
 
     /// Up to `length` bytes; fewer only at the end of input.
