@@ -1,29 +1,32 @@
 // The answer of a case, and how it is printed.
-use crate::input::Case;
+use crate::input::{Case, Question};
 use answers::Refusal;
 use enclave::check::check_enclave;
 use federate::FederateAccepted;
 use federate::check::check_federate;
-use packing::PackKind;
+use mode_owner::mode_owner;
+use schema::index::ReactorIndex;
 use std::fmt;
 
-// By kind: each check has an answer of its own, and a kind that is none has neither.
-#[derive(Clone, Copy, Debug)]
+// By question: each has an answer of its own.
+#[derive(Clone, Copy)]
 pub enum Answer {
     Enclave(Result<u64, Refusal>),
     Federate(Result<FederateAccepted, Refusal>),
-    UnknownKind,
+    ModeOwner(Result<ReactorIndex, Refusal>),
 }
 
 pub fn answer_of(case: Case) -> Answer {
-    match case.kind {
-        Some(PackKind::Enclave) => Answer::Enclave(check_enclave(
-            case.pack, case.batch, case.house,
-        )),
-        Some(PackKind::Federate) => Answer::Federate(check_federate(
-            case.pack, case.batch, case.house,
-        )),
-        None => Answer::UnknownKind,
+    let Case {
+        question,
+        pack,
+        batch,
+        house,
+    } = case;
+    match question {
+        Question::Enclave => Answer::Enclave(check_enclave(pack, batch, house)),
+        Question::Federate => Answer::Federate(check_federate(pack, batch, house)),
+        Question::ModeOwner { mode } => Answer::ModeOwner(mode_owner(pack, batch, house, mode)),
     }
 }
 
@@ -34,10 +37,10 @@ impl fmt::Display for Answer {
             Answer::Federate(Ok(FederateAccepted { enclaves, links })) => {
                 write!(f, "accepted {enclaves} {links}")
             }
-            Answer::Enclave(Err(refusal)) | Answer::Federate(Err(refusal)) => {
-                write!(f, "refused {refusal}")
-            }
-            Answer::UnknownKind => write!(f, "unknown kind"),
+            Answer::ModeOwner(Ok(reactor)) => write!(f, "owner {}", reactor.0),
+            Answer::Enclave(Err(refusal))
+            | Answer::Federate(Err(refusal))
+            | Answer::ModeOwner(Err(refusal)) => write!(f, "refused {refusal}"),
         }
     }
 }

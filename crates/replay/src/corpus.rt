@@ -30,11 +30,15 @@ fn answer_next<R: BufRead>(input: &mut R, room: &mut Room, lines: &mut Lines) ->
             writeln!(lines, "cut off")?;
             Ok(false)
         }
+        Err(ReadError::UnknownKind) => {
+            writeln!(lines, "unknown kind")?;
+            Ok(false)
+        }
         Err(ReadError::Failed(error)) => Err(error),
     }
 }
 
-// Answers each case, to the end of the corpus or to a case that is cut off. Nothing says that the input ends, so the turns are counted.
+// Answers each case, to the end of the corpus or to a case that is cut off or of no known kind. Nothing says that the input ends, so the turns are counted.
 pub fn answer_all<R: BufRead, W: Write>(
     input: &mut R,
     room: &mut Room,

@@ -1,21 +1,29 @@
 // Reading a corpus, case by case. Its numbers go high byte first.
-use packing::PackKind;
 use std::io;
 use std::io::{BufRead, ErrorKind, Read};
 
-// A case: the kind of its pack, if its first byte is one, and what was kept of each part.
+// What is asked of a pack and its texts: the check of an enclave or of a federate, or the owner of a mode.
+#[derive(Clone, Copy)]
+pub enum Question {
+    Enclave,
+    Federate,
+    ModeOwner { mode: u32 },
+}
+
+// A question with what was kept of each part.
 #[derive(Clone, Copy)]
 pub struct Case<'a> {
-    pub kind: Option<PackKind>,
+    pub question: Question,
     pub pack: &'a [u8],
     pub batch: &'a [u8],
     pub house: &'a [u8],
 }
 
-// Why a case is not read: it is cut off, or its reading failed.
+// Why a case is not read: it is cut off, its first byte is no kind of question, or its reading failed.
 #[derive(Debug, Drop)]
 pub enum ReadError {
     CutOff,
+    UnknownKind,
     Failed(io::Error),
 }
 
@@ -60,18 +68,21 @@ pub struct Room<'a> {
     pub house: &'a mut [u8],
 }
 
-// The corpus's number for a kind, which no pack holds: so this stands here, and `PackKind` has no `TryFrom` of it.
-fn kind_of(first: u8) -> Option<PackKind> {
-    match first {
-        0 => Some(PackKind::Enclave),
-        1 => Some(PackKind::Federate),
-        _ => None,
+// Takes what follows the parts, by the corpus's number for a kind of question.
+fn read_question<R: Read>(kind: u8, input: &mut R) -> Result<Question, ReadError> {
+    match kind {
+        0 => Ok(Question::Enclave),
+        1 => Ok(Question::Federate),
+        6 => Ok(Question::ModeOwner {
+            mode: read_u32(input)?,
+        }),
+        _ => Err(ReadError::UnknownKind),
     }
 }
 
-// Takes the parts of a case of that kind.
+// Takes the parts of a case of that kind, and its question.
 fn read_parts<'a, R: Read>(
-    kind: Option<PackKind>,
+    kind: u8,
     input: &mut R,
     room: &'a mut Room,
 ) -> Result<Case<'a>, ReadError> {
@@ -79,11 +90,15 @@ fn read_parts<'a, R: Read>(
     let batch_len = read_u32(input)?;
     let house_len = read_u32(input)?;
     let Room { pack, batch, house } = room;
+    let pack = take(input, pack, pack_len)?;
+    let batch = take(input, batch, batch_len)?;
+    let house = take(input, house, house_len)?;
+    let question = read_question(kind, input)?;
     Ok(Case {
-        kind,
-        pack: take(input, pack, pack_len)?,
-        batch: take(input, batch, batch_len)?,
-        house: take(input, house, house_len)?,
+        question,
+        pack,
+        batch,
+        house,
     })
 }
 
@@ -97,6 +112,6 @@ pub fn read_case<'a, R: BufRead>(
     }
     let mut kind = [0u8; 1];
     input.read_exact(&mut kind).map_err(ReadError::Failed)?;
-    let case = read_parts(kind_of(kind[0]), input, room)?;
+    let case = read_parts(kind[0], input, room)?;
     Ok(Some(case))
 }
