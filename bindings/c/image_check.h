@@ -18,8 +18,8 @@ extern "C" {
  * The result says how many of `numbers` hold the answer, from 1 to 7 (7 for refusals 12 and 13); the others of the eight are set to 0.
  *   numbers[0] is 0: accepted. Then follow, for an enclave, the links (result 2); for a federate, the stations and the links (result 3).
  *   numbers[0] is not 0: refused. It is the refusal's number, from 1 to 39, and the numbers that it carries follow. docs/REFUSALS.md lists
- *   them. Tables are numbered 0 to 25, as in the pack; 25 are the deadlines, which may be left out.
- * The program `replay` prints these numbers: `accepted` and those after the 0, or `refused` and all of them.
+ *   them. Tables are numbered 0 to 25, as in the pack (25 are the deadlines, which may be left out); in 13 also 255, the numbers of stations.
+ * The program `replay` prints these numbers: `accepted` (`owner` for the last call below) and those after the 0, or `refused` and all of them.
  *
  * Proved (crates/image_check, exported by crates/image_check_c): for any three strings of bytes, whatever their lengths and contents, the
  * call ends, these are the numbers and this the result, it reads no byte outside the three strings and writes nothing but the eight
@@ -48,8 +48,8 @@ uint32_t check_federate_image(const uint8_t *pack, size_t pack_len, const uint8_
  *
  * All that is said above holds of this call too. The answer: 0 and the reactor (result 2); or the station's refusal, as check_enclave_image gives
  * it; or, for an accepted station without such a mode, 12, 6, 0, 20, 6, the mode and how many modes there are (result 7). */
-uint32_t mode_owner_of_image(const uint8_t *pack, size_t pack_len, const uint8_t *batch, size_t batch_len, const uint8_t *house,
-                         size_t house_len, uint32_t mode, uint64_t *numbers);
+uint32_t mode_owner_of_image(const uint8_t *pack, size_t pack_len, const uint8_t *batch, size_t batch_len,
+                             const uint8_t *house, size_t house_len, uint32_t mode, uint64_t *numbers);
 
 #ifdef __cplusplus
 }

@@ -8,6 +8,9 @@
 
 #include "image_check.h"
 
+/* The kinds of question. */
+enum { STATION = 0, LINE = 1, OWNER = 6 };
+
 static void die(const char *what)
 {
     fprintf(stderr, "test: %s\n", what);
@@ -63,7 +66,7 @@ static void print_answer(const char *yes, const uint64_t *numbers, uint32_t coun
 static uint32_t asked(uint8_t kind, int *whole)
 {
     uint8_t bytes[4] = {0};
-    if (kind == 6 && fread(bytes, 1, sizeof bytes, stdin) != sizeof bytes)
+    if (kind == OWNER && fread(bytes, 1, sizeof bytes, stdin) != sizeof bytes)
         *whole = 0;
     return (uint32_t)length_at(bytes);
 }
@@ -81,11 +84,11 @@ static int answer_case(const uint8_t *head, int null_if_empty)
     memset(numbers, 0xA5, 8 * sizeof *numbers);
     if (!whole)
         puts("cut off");
-    else if (head[0] == 0)
+    else if (head[0] == STATION)
         print_answer("accepted", numbers, check_enclave_image(pack, p, batch, b, house, h, numbers));
-    else if (head[0] == 1)
+    else if (head[0] == LINE)
         print_answer("accepted", numbers, check_federate_image(pack, p, batch, b, house, h, numbers));
-    else if (head[0] == 6)
+    else if (head[0] == OWNER)
         print_answer("owner", numbers, mode_owner_of_image(pack, p, batch, b, house, h, mode, numbers));
     else {
         puts("unknown kind");

@@ -64,7 +64,7 @@ fn routed_text(n: u32) -> Vec<u8> {
 }
 
 /// Runs on a thread with a stack of just `STACK` bytes.
-fn on_small_stack(check: impl FnOnce() -> Answer + Send + 'static) -> Answer {
+fn on_small_stack<A: Send + 'static>(check: impl FnOnce() -> A + Send + 'static) -> A {
     std::thread::Builder::new().stack_size(STACK).spawn(check).unwrap().join().unwrap()
 }
 
@@ -175,6 +175,22 @@ fn deepest_station() {
     assert_eq!(pack.len(), 4194304);
     let answer = on_small_stack(move || check_enclave(&pack, b"ab", b""));
     assert_eq!(answer, Answer::Enclave { links: links_of_chain(65533) });
+}
+
+/// The deepest station of which a mode's owner can be asked: one mode, whose scope is the last of the chain.
+#[test]
+fn deepest_owner() {
+    let scopes = 65531;
+    let pack = [
+        vec![record(1, [0, 0], &[0, 1, 1]), record(2, [0, 0], &[0, 0, 0, 0, 0, 0, 1])],
+        vec![record(6, [0, 0], &[0, scopes - 1])],
+        (0..scopes - 1).map(scope).collect(),
+        vec![record(7, [3, 0], &[scopes - 2]), record(24, [0, 0], &[1, 1])],
+    ];
+    let pack = pack.concat().concat();
+    assert_eq!(pack.len(), 4194304 - 64);
+    let answer = on_small_stack(move || mode_owner(&pack, b"ab", b"", 0));
+    assert_eq!(answer, Owner::Reactor(0));
 }
 
 #[test]

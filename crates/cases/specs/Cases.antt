@@ -146,6 +146,6 @@ unfolding every same_list cases bytes padded enclave_answer image_answer first r
     mode_checks parent_checks scope_mode_checks scope_owner_checks ends_before member_range_checks reaction_range_checks scope_row_checks scope_checks
     followed links_below cycle_checks named_checks trigger_checks listed_entry_checks index_checks startup_checks action_trigger_checks port_trigger_checks enabled_mode_checks enabled_modes_checks
     scope_list_checks level_entry_checks lifecycle_entry_checks index_order_checks shutdown_action_checks route_order_checks route_row route_checks
-    binding_id_row binding_id_checks deadline_checks federate_at federate_answer packed_answer metadata_checks federate_checks count_below enclave_before enclave_from
-    enclaves.record_checks enclaves.links_before route_record_checks
+    binding_id_row binding_id_checks deadline_checks federate_at federate_answer packed_answer metadata_checks federate_checks count_below enclave_before
+    enclave_from enclaves.record_checks enclaves.links_before route_record_checks
 cases-hold = tt

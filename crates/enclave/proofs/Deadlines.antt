@@ -9,8 +9,8 @@ use Rattle.checks.specs.Image.{Image}
 use Rattle.list_checks.specs.Deadlines.{deadline_checks}
 use Rattle.answers.specs.Checks.{run}
 use Rattle.enclave.specs.Passes.{passes, over, checks_of, pass_checks, enclave_checks}
-use Rattle.enclave.specs.Answer.{pack_image}
-use Rattle.enclave.specs.Deadlines.{ported_passes, KeepsChecks}
+use Rattle.enclave.specs.Answer.{image_answer, pack_image, enclave_answer}
+use Rattle.enclave.specs.Deadlines.{ported_passes, KeepsChecks, KeepsAnswer}
 use Rattle.enclave.proofs.Opened.{the_passes}
 use Rattle.enclave.proofs.Whole.{checks_append}
 
@@ -30,3 +30,7 @@ keeps_checks p batch house none =
     ap (checks_of m) last_pass
     ∙ checks_append m ported_passes (over 25 deadline_checks ∷ [])
     ∙ rw (nothing_last m (no_rows p 25 (omega arith) none)) (append-nil (checks_of m ported_passes))
+
+pub keeps_answer : KeepsAnswer
+unfolding enclave_answer image_answer
+keeps_answer p batch house none = rw (keeps_checks p batch house none) refl

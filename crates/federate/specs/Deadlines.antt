@@ -1,4 +1,4 @@
--- A federate without deadlines is checked as one whose pack has no table for them: its enclaves' checks alone look at them. Assumes nothing.
+-- The enclaves of a federate without deadlines are checked as those of a pack that has no table for them. Assumes nothing.
 use Rattle.std.specs.Prelude.{ℕ, ◌≡◌, List}
 use Rattle.enclave.specs.Passes.{checks_of, enclave_checks}
 use Rattle.enclave.specs.Deadlines.{NoDeadlines, ported_passes}

@@ -45,7 +45,7 @@ pub record FirstHolder (f : ℕ → Bool) (n r read : ℕ) : Type 0 where
   pub inside : r < n
   pub holds : f r ≡ true
   pub before : NoHolder f r
-  pub no-further : read ≡ r + 1
+  pub no_further : read ≡ r + 1
 
 -- of an accepted station and a mode that it has, the answer is one reactor, which is the one that the mode names
 abbrev pub OwnerIsNamed : Type 0

@@ -1,5 +1,7 @@
 //! Deadlines (table 25), which the Rust does not have: their checks, from document 02, Wish 12.
+use crate::numbers::from_1;
 use pack::layout::{DEADLINES, REACTIONS};
+use pack::names::FIELDS;
 use pack::row::Row;
 
 /// A station's deadlines, and how many reactions it has.
@@ -27,7 +29,8 @@ impl Deadlines {
         let row = [DEADLINES.into(), index as u64];
         let mut faults = Vec::new();
         if reaction >= self.reactions {
-            faults.push([&[12], &row[..], &[27, REACTIONS.into(), reaction, self.reactions]].concat());
+            let field = from_1(&FIELDS, "reaction");
+            faults.push([&[12], &row[..], &[field, REACTIONS.into(), reaction, self.reactions]].concat());
         }
         if before.is_some_and(|before| reaction == before) {
             faults.push([&[16], &row[..]].concat());

@@ -5,7 +5,7 @@ mod enclave;
 mod identities;
 mod links;
 mod numbers;
-mod owner;
+pub mod owner;
 mod places;
 pub mod worth;
 

@@ -4,7 +4,7 @@ use boomerang_runtime::image::{ImageValidationError as Error, RouteDirection};
 use pack::layout::TABLES;
 use pack::names::{FIELDS, KINDS};
 
-fn from_1(names: &[&str], name: &str) -> u64 {
+pub fn from_1(names: &[&str], name: &str) -> u64 {
     let at = names.iter().position(|known| *known == name);
     1 + at.unwrap_or_else(|| panic!("document 01 does not name {name}")) as u64
 }

@@ -44,7 +44,7 @@ fn ends(scopes: &[&Row], scope: usize) -> bool {
 }
 
 /// The reactors whose span holds a mode.
-fn owners(reactors: &[&Row], mode: usize) -> Vec<u64> {
+pub fn owners(reactors: &[&Row], mode: usize) -> Vec<u64> {
     let held = |row: &Row| row.numbers[3] <= mode as u64 && (mode as u64) < row.numbers[3] + row.numbers[4];
     (0..).zip(reactors).filter(|(_, row)| held(row)).map(|(reactor, _)| reactor).collect()
 }

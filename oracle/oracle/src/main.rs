@@ -26,7 +26,7 @@ oracle sample CORPUS OUT ANSWERS [COUNT [deadlines]]
 oracle with TABLE CORPUS OUT         the cases that have a record of a table
 oracle compare ANSWERS REPLAYED      two files of answer lines, line by line
 oracle worth CORPUS                  tries what a yes is worth on each accepted station and line
-oracle lines                         document 01's lines tried by hand
+oracle lines                         the papers' lines tried by hand
 oracle lines OUT ANSWERS             the same as a corpus and its answers";
 
 fn main() -> ExitCode {

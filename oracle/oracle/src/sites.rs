@@ -2,8 +2,9 @@
 //!
 //! Most refusals name their site by refusal, table and field. Where several places give the
 //! same numbers, or one test has several parts, the case's own rows tell them apart.
+use check::owner::is_of_mode_asked;
 use check::{answer, rows, stations, Answer};
-use pack::corpus::Case;
+use pack::corpus::{Case, Kind};
 use pack::layout::{ACTIONS, MODES, PORTS, REACTORS, SCOPES, TIMER};
 use pack::names::{direction_name, field_name, kind_name, table_name};
 use pack::packing;
@@ -14,7 +15,7 @@ pub fn of(case: &Case, answer: &Answer) -> Option<String> {
     let Answer::Refused(numbers) = answer else {
         return None;
     };
-    if case.mode().is_some() && numbers.starts_with(&[12, 6, 0, 20, 6]) {
+    if case.mode().is_some() && is_of_mode_asked(numbers) {
         return None;
     }
     if let Err(fault) = packing::check(case, case.kind()?) {
@@ -50,7 +51,7 @@ pub fn short_table(case: &Case, answer: &Answer) -> Option<String> {
         _ => "256 rows and more",
     };
     let place = match refusing_station(case, &stations(&rows(case))) {
-        _ if case.kind == 0 => "a station",
+        _ if case.kind() == Some(Kind::Enclave) => "a station",
         Some(0) => "the first station of a line",
         _ => "a later station of a line",
     };
