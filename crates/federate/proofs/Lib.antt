@@ -6,3 +6,5 @@ pub mod Whole
 pub mod Missing
 pub mod Accepted
 pub mod Deadlines
+pub mod Parts
+pub mod SameEnclaves

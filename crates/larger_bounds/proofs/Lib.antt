@@ -2,10 +2,8 @@ pub mod Larger
 pub mod SlotTests
 pub mod Exactly
 pub mod RowBytes
-pub mod Packed
 pub mod SamePacks
 pub mod PacksLarger
 pub mod PacksExactly
-pub mod Parts
 pub mod SameFederates
 pub mod FederatesLarger

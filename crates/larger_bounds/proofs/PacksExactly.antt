@@ -11,16 +11,18 @@ use Rattle.answers.specs.Slots.{without_slots}
 use Rattle.answers.proofs.RefusalNumbers.{number-positive}
 use Rattle.schema.specs.Bytes.{byte_of}
 use Rattle.schema.specs.Tables.{tables, start_of, rows_of}
+use Rattle.packing.specs.declared.PackKind.TheVariants.{Enclave}
+use Rattle.packing.specs.Packing.{Packed}
 use Rattle.packing.specs.Starts.{table_starts}
+use Rattle.packing.proofs.Packed.{first_is}
 use Rattle.packing.proofs.TableRows.{rows_by_byte}
 use Rattle.checks.specs.Image.{Image}
 use Rattle.scope_checks.specs.Links.{links}
 use Rattle.enclave.specs.Passes.{enclave_checks}
 use Rattle.enclave.specs.Answer.{unless, image_answer, pack_image, enclave_answer}
 use Rattle.larger_bounds.specs.Images.{SlotsBelow}
-use Rattle.larger_bounds.specs.Packs.{Packed, answer_without_slots, SlotsUsedBelow, EnclaveAcceptedExactly}
+use Rattle.larger_bounds.specs.Packs.{answer_without_slots, SlotsUsedBelow, EnclaveAcceptedExactly}
 use Rattle.larger_bounds.proofs.Exactly.{accepted-exactly}
-use Rattle.larger_bounds.proofs.Packed.{has-enclave}
 
 -- an answer that is acceptance is no refusal's
 accepted-passed : (o : Outcome) (ns : List ℕ) (n : ℕ) → unless o ns ≡ 0 ∷ n ∷ [] → (o ≡ passed) × (ns ≡ 0 ∷ n ∷ [])
@@ -29,7 +31,7 @@ accepted-passed (Err r) ns n e =
     let h : get_or (numbers r) 0 0 ≡ 0 = ap (λ xs. get_or xs 0 0) e in
     absurd (omega (arith, number-positive r))
 
-module _ (p batch house : List ℕ) (h : Packed p batch house) where
+module _ (p batch house : List ℕ) (h : Packed Enclave p batch house) where
   abbrev m : Image
   m = pack_image p batch house
 
@@ -41,7 +43,7 @@ module _ (p batch house : List ℕ) (h : Packed p batch house) where
   row_at t i k l = let r = (rows_by_byte p batch house h t (start t + i) k).0 (omega arith, omega arith) in (r.1, r.2)
 
   record_at : (t n : ℕ) → 2 ≤ t → t < tables → n < length p / 64 → byte_of p n 0 ≡ t → (n - start t < rows_of (table_starts p 1) t) × (start t + (n - start t) ≡ n)
-  record_at t zero g k l e = let z = has-enclave p batch house h in absurd (omega arith)
+  record_at t zero g k l e = let z = first_is Enclave p batch house h in absurd (omega arith)
   record_at t (suc n) g k l e = let r = (rows_by_byte p batch house h t (suc n) k).1 (omega arith, l, e) in (omega (arith, r.0, r.1), omega (arith, r.0))
 
   used-slots : SlotsUsedBelow p → SlotsBelow m

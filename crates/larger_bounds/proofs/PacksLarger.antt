@@ -7,17 +7,20 @@ use Rattle.answers.specs.Checks.{first}
 use Rattle.answers.specs.Slots.{SlotRefusal}
 use Rattle.answers.proofs.Looser.{Looser, looser-stays}
 use Rattle.schema.specs.Bytes.{byte_of}
+use Rattle.packing.specs.declared.PackKind.TheVariants.{Enclave}
+use Rattle.packing.specs.Packing.{Packed}
 use Rattle.packing.specs.Starts.{table_starts}
+use Rattle.packing.proofs.Packed.{first_is, one_enclave}
+use Rattle.packing.proofs.SameTables.{same_starts}
 use Rattle.checks.specs.Image.{Image, image}
 use Rattle.scope_checks.specs.Links.{links}
 use Rattle.enclave.specs.Passes.{pass_checks, checks_of, enclave_checks}
 use Rattle.enclave.specs.Answer.{image_answer, pack_image, enclave_answer}
 use Rattle.larger_bounds.specs.Images.{with_bounds}
-use Rattle.larger_bounds.specs.Packs.{Packed, state_bound, action_bound, DifferInStorage, SlotAnswer, EnclaveAnswerStays}
+use Rattle.larger_bounds.specs.Packs.{state_bound, action_bound, DifferInStorage, SlotAnswer, EnclaveAnswerStays}
 use Rattle.enclave.proofs.Opened.{the_passes, the_rows, the_lists}
 use Rattle.larger_bounds.proofs.Larger.{enclave-looser}
-use Rattle.larger_bounds.proofs.Packed.{one-enclave, has-enclave}
-use Rattle.larger_bounds.proofs.SamePacks.{in_tables, starts-same, image-same}
+use Rattle.larger_bounds.proofs.SamePacks.{in_tables, same_tables, image-same}
 
 -- the checks look at no list but those of the tables
 in-tables-same : (m : Image) → enclave_checks (in_tables m) ≡ enclave_checks m
@@ -36,7 +39,7 @@ module _ (p q batch house : List ℕ) (d : DifferInStorage p q) (single : (n : �
 
   checks-same : enclave_checks (pack_image q batch house) ≡ enclave_checks (with_bounds (in_tables m) (state_bound q 0) (action_bound q 0))
   checks-same =
-      ap (λ x. enclave_checks (image q batch house x 0)) (starts-same p q d 1)
+      ap (λ x. enclave_checks (image q batch house x 0)) (same_starts p q (same_tables p q d) 1)
       ∙ sym (in-tables-same (image q batch house (table_starts p 1) 0))
       ∙ ap enclave_checks (image-same p q d batch house single)
 
@@ -48,7 +51,7 @@ module _ (p q batch house : List ℕ) (d : DifferInStorage p q) (single : (n : �
 
   pub pack-links : links (pack_image q batch house) ≡ links m
   pack-links =
-      ap (λ x. links (image q batch house x 0)) (starts-same p q d 1)
+      ap (λ x. links (image q batch house x 0)) (same_starts p q (same_tables p q d) 1)
       ∙ ap links (image-same p q d batch house single)
 
   pub pack-stays :
@@ -58,13 +61,13 @@ module _ (p q batch house : List ℕ) (d : DifferInStorage p q) (single : (n : �
   pack-stays h g o = rw (looser-stays (pack-looser h g) (λ r. o (slot-answer m r)), pack-links)
 
 -- a pack that passes the packing rules has its image's answer
-pack-answer : (p batch house : List ℕ) → Packed p batch house → enclave_answer p batch house ≡ image_answer (pack_image p batch house)
+pack-answer : (p batch house : List ℕ) → Packed Enclave p batch house → enclave_answer p batch house ≡ image_answer (pack_image p batch house)
 unfolding enclave_answer
 pack-answer p batch house h = rw h
 
 pub answer-stays : EnclaveAnswerStays
 answer-stays p q batch house h k d b o =
-    let bounds = b 0 (has-enclave p batch house h) in
+    let bounds = b 0 (first_is Enclave p batch house h) in
     pack-answer q batch house k
-    ∙ pack-stays p q batch house d (one-enclave p batch house h) bounds.0 bounds.1 (λ e. o (rw (pack-answer p batch house h) e))
+    ∙ pack-stays p q batch house d (one_enclave p batch house h) bounds.0 bounds.1 (λ e. o (rw (pack-answer p batch house h) e))
     ∙ sym (pack-answer p batch house h)

@@ -13,10 +13,10 @@ use Rattle.schema.specs.Layout.{Layout}
 use Rattle.schema.specs.Bytes.{byte_of}
 use Rattle.schema.specs.Rows.{row, reactor_of, action_of, port_of, reaction_of, mode_of, scope_of, index_of, level_of, startup_of, lifecycle_of, route_of, binding_of, deadline_of, enclave_at, reactor_at, action_at, port_at, reaction_at, mode_at, scope_at, index_at, level_at, startup_at, lifecycle_at, route_at, binding_at, deadline_at}
 use Rattle.packing.specs.Shape.{used}
-use Rattle.schema.specs.Records.{records_of}
 use Rattle.schema.specs.Tables.{tables, start_of, rows_of}
-use Rattle.packing.specs.Starts.{first_reaching, starts_below, table_starts}
+use Rattle.packing.specs.Starts.{table_starts}
 use Rattle.packing.proofs.TableStarts.{starts_from}
+use Rattle.packing.proofs.SameTables.{SameTables}
 use Rattle.checks.specs.Image.{Image, image, action_part, reaction_part, route_part, deadline_part}
 use Rattle.larger_bounds.specs.Images.{with_bounds}
 use Rattle.larger_bounds.specs.Packs.{DifferInStorage, state_bound, action_bound}
@@ -55,20 +55,8 @@ module _ (p q : List ℕ) (d : DifferInStorage p q) where
   pub table_same : (n : ℕ) → byte_of q n 0 ≡ byte_of p n 0
   table_same n = d.1 n 0 (omega arith) (λ s. let l = s.1 in omega arith)
 
-  -- the starts of tables
-  first-same : (t k f : ℕ) → first_reaching q t k f ≡ first_reaching p t k f
-  unfolding first_reaching
-  first-same t k zero = refl
-  first-same t k (suc f) = rw (d.0, table_same k, first-same t (k + 1) f)
-
-  below-same : (rows k : ℕ) → starts_below q rows k ≡ starts_below p rows k
-  unfolding starts_below
-  below-same rows zero = refl
-  below-same rows (suc k) = rw (below-same rows k, d.0, first-same k rows (records_of p))
-
-  pub starts-same : (rows : ℕ) → table_starts q rows ≡ table_starts p rows
-  unfolding table_starts
-  starts-same rows = below-same rows (suc tables)
+  pub same_tables : SameTables p q
+  same_tables = record { lengths = d.0; tables = table_same }
 
   -- the bytes of a record that is no enclave's, and the first four after it
   pub record_same : (n : ℕ) → (byte_of p n 0 ≡ 1 → ⊥) → (j : ℕ) → j < 68 → byte_of q n j ≡ byte_of p n j

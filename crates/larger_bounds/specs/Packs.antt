@@ -1,18 +1,14 @@
 -- Demand 3 for enclaves, over packs: larger bounds, and the slot checks left out. Assumes nothing.
 use Rattle.std.specs.Prelude.{ℕ, ◌/◌, ◌<◌, ◌≤◌, ◌≡◌, ◌↔◌, List, [], ◌∷◌, length, get_or}
-use Rattle.answers.specs.Checks.{first, passed}
+use Rattle.answers.specs.Checks.{first}
 use Rattle.answers.specs.Slots.{without_slots}
 use Rattle.schema.specs.Bytes.{byte_of}
 use Rattle.schema.specs.Rows.{enclave_at, reactor_at, action_at}
 use Rattle.packing.specs.declared.PackKind.TheVariants.{Enclave}
-use Rattle.packing.specs.Packing.{packing_checks}
+use Rattle.packing.specs.Packing.{packing_checks, Packed}
 use Rattle.scope_checks.specs.Links.{links}
 use Rattle.enclave.specs.Passes.{enclave_checks}
 use Rattle.enclave.specs.Answer.{unless, pack_image, enclave_answer}
-
--- an enclave pack that passes the packing rules with the texts lent
-abbrev pub Packed : List ℕ → List ℕ → List ℕ → Type 0
-Packed p batch house = first (packing_checks Enclave p batch house) ≡ passed
 
 -- the state and the action bound of the enclave of record n
 abbrev pub state_bound : List ℕ → ℕ → ℕ
@@ -44,7 +40,7 @@ SlotAnswer answer = get_or answer 0 0 ≡ 23
 -- any answer other than a slot refusal is the answer with larger bounds
 abbrev pub EnclaveAnswerStays : Type 0
 EnclaveAnswerStays =
-    (p q batch house : List ℕ) → Packed p batch house → Packed q batch house
+    (p q batch house : List ℕ) → Packed Enclave p batch house → Packed Enclave q batch house
     → DifferInStorage p q → NoBoundSmaller p q
     → (SlotAnswer (enclave_answer p batch house) → ⊥)
     → enclave_answer q batch house ≡ enclave_answer p batch house
@@ -65,5 +61,5 @@ SlotsUsedBelow p =
 -- accepted with a link count exactly when accepted with that count without the slot checks, and every slot used is below its bound
 abbrev pub EnclaveAcceptedExactly : Type 0
 EnclaveAcceptedExactly =
-    (p batch house : List ℕ) → Packed p batch house → (count : ℕ)
+    (p batch house : List ℕ) → Packed Enclave p batch house → (count : ℕ)
     → (enclave_answer p batch house ≡ 0 ∷ count ∷ []) ↔ ((answer_without_slots p batch house ≡ 0 ∷ count ∷ []) × SlotsUsedBelow p)

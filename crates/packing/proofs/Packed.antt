@@ -6,15 +6,14 @@ use mathlib.Core.List.{List}
 use native.Mathlib.Decide.{dec_le}
 use native.Mathlib.Omega.{arith}
 use lib.Dec.{ltb, leb, eqb}
-use lib.ListN.{length}
+use lib.ListN.{length, get_or-eq_default}
 use borrow.Author.Tests.{ltb-true, leb-true, eqb-true}
-use Rattle.answers.specs.Checks.{first, passed}
 use Rattle.answers.proofs.Passed.{Passes, test, rest, item}
 use Rattle.schema.specs.Layout.{layouts}
 use Rattle.schema.specs.Bytes.{byte_of}
 use Rattle.packing.specs.declared.PackKind.{PackKind}
 use Rattle.packing.specs.declared.PackKind.TheVariants.{Enclave}
-use Rattle.packing.specs.Packing.{first_table, table_after, in_place, record_checks, packing_checks}
+use Rattle.packing.specs.Packing.{first_table, table_after, in_place, record_checks, packing_checks, Packed}
 use Rattle.identity.proofs.Tests.{both}
 
 -- the first record's place, and the place of one after another
@@ -33,7 +32,7 @@ pub record PackLength (n : ℕ) : Type 0 where
   pub few : n ≤ 4194304
   pub whole : n % 64 ≡ 0
 
-module _ (kind : PackKind) (p batch house : List ℕ) (h : first (packing_checks kind p batch house) ≡ passed) where
+module _ (kind : PackKind) (p batch house : List ℕ) (h : Packed kind p batch house) where
   pub fits : PackLength (length p)
   unfolding packing_checks
   fits =
@@ -48,18 +47,28 @@ module _ (kind : PackKind) (p batch house : List ℕ) (h : first (packing_checks
       let w : Passes (packing_checks kind p batch house) = record { is = h } in
       test (item (record_checks kind p batch house) (length p / 64) (rest (rest (rest w))) n l)
 
-module _ (p batch house : List ℕ) (h : first (packing_checks Enclave p batch house) ≡ passed) where
-  -- from record 1 on, the tables are 2 or above, and rise
+  -- the first record is of the kind's first table; a record past the end counts as one of table 0
+  pub first_is : byte_of p 0 0 ≡ first_table kind
+  first_is =
+      let f = fits in
+      let l = f.some in
+      let w = f.whole in
+      eqb-true (byte_of p 0 0) (first_table kind) (placed-at 0 (omega arith))
+
+  pub past_end : (n : ℕ) → length p / 64 ≤ n → byte_of p n 0 ≡ 0
+  past_end n l = get_or-eq_default p 0 (let f = fits in let w = f.whole in omega arith)
+
+module _ (p batch house : List ℕ) (h : Packed Enclave p batch house) where
+  -- from record 1 on, the tables are 2 or above, and rise; none is an enclave's record
   pub rows_above : (n : ℕ) → suc n < length p / 64 → (2 ≤ byte_of p (suc n) 0) × (byte_of p n 0 ≤ byte_of p (suc n) 0)
   rows_above n l =
       let e = both (leb 2 (byte_of p (suc n) 0)) _ (placed-at Enclave p batch house h (suc n) l) in
-      (leb-true 2 (byte_of p (suc n) 0) e.0, leb-true (byte_of p n 0) (byte_of p (suc n) 0) (both (ltb (byte_of p (suc n) 0) (length layouts)) _ e.1).1)
+      let f = both (ltb (byte_of p (suc n) 0) (length layouts)) _ e.1 in
+      (leb-true 2 (byte_of p (suc n) 0) e.0, leb-true (byte_of p n 0) (byte_of p (suc n) 0) f.1)
 
-  pub rise : (j k : ℕ) → j ≤ k → k < length p / 64 → byte_of p j 0 ≤ byte_of p k 0
-  rise j zero l u = let x : j ≡ 0 = omega arith in rw x (omega arith)
-  rise j (suc k) l u =
-      let i = rise j k in
-      elim (dec_le j k) [
-        | yes g ↦ (let e = i g (omega arith) in let r = (rows_above k u).1 in omega arith)
-        | no g ↦ (let x : j ≡ suc k = omega arith in rw x (omega arith))
+  pub one_enclave : (n : ℕ) → byte_of p (suc n) 0 ≡ 1 → ⊥
+  one_enclave n e =
+      elim (dec_le (length p / 64) (suc n)) [
+        | yes g ↦ (let z = past_end Enclave p batch house h (suc n) g in omega arith)
+        | no g ↦ (let r = rows_above n (omega arith) in omega arith)
       ]

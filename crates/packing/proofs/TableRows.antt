@@ -1,4 +1,5 @@
--- In an enclave's pack that passes the packing rules, the rows of a table are the records of that table. Assumes nothing.
+-- Where a pack's records rise by table, as in an enclave's pack that passes the packing rules, the rows of a table are the records of that table.
+-- Assumes nothing.
 use Prim.Native.Nat.{ℕ, zero, suc, ◌+◌, ◌/◌, ◌<◌, ◌≤◌}
 use mathlib.Core.Bool.{true, false}
 use mathlib.Core.Path.{◌≡◌, sym}
@@ -8,17 +9,16 @@ use native.Mathlib.Omega.{arith}
 use lib.ListN.{length}
 use borrow.Author.Tests.{leb-true, lt-ltb, le-ltb}
 use Rattle.identity.proofs.Tests.{cases}
-use Rattle.answers.specs.Checks.{first, passed}
 use Rattle.schema.specs.Bytes.{byte_of}
 use Rattle.schema.specs.Tables.{tables, start_of, rows_of}
 use Rattle.packing.specs.declared.PackKind.TheVariants.{Enclave}
-use Rattle.packing.specs.Packing.{packing_checks}
+use Rattle.packing.specs.Packing.{Packed}
 use Rattle.schema.specs.Records.{records_of}
 use Rattle.packing.specs.Starts.{reaches, first_reaching, table_starts}
 use Rattle.packing.specs.TableRows.{IsRow, RowsByByte}
 use Rattle.packing.proofs.TableStarts.{not-reached, reached-row, starts-at, starts_from, starts-within}
 use Rattle.packing.proofs.Records.{records_all, some_record}
-use Rattle.packing.proofs.Packed.{fits, rows_above, rise}
+use Rattle.packing.proofs.Packed.{fits, rows_above}
 
 module _ (p : List ℕ) (t : ℕ) where
   -- no record before the first one reaches table t; that one does, or is past those looked at
@@ -53,30 +53,40 @@ no_rows p t known none =
           absurd (none s same)
     ]
 
-module _ (p batch house : List ℕ) (h : first (packing_checks Enclave p batch house) ≡ passed) where
+-- a pack with a record, all of whose records are looked at; those after the first are of the tables from 2 on, and rise
+pub record RowsRise (p : List ℕ) : Type 0 where
+  pub some : 1 ≤ records_of p
+  pub all : records_of p ≡ length p / 64
+  pub above : (n : ℕ) → suc n < length p / 64 → (2 ≤ byte_of p (suc n) 0) × (byte_of p n 0 ≤ byte_of p (suc n) 0)
+
+module _ (p : List ℕ) (up : RowsRise p) where
   abbrev start : ℕ → ℕ
   start t = start_of (table_starts p 1) t
 
-  some : 1 ≤ records_of p
-  some = let f = fits Enclave p batch house h in some_record p f.some f.whole
-
-  all : records_of p ≡ length p / 64
-  all = records_all p (fits Enclave p batch house h).few
-
   row_table : (n : ℕ) → 1 ≤ n → n < length p / 64 → 2 ≤ byte_of p n 0
   row_table zero l u = absurd (omega arith)
-  row_table (suc n) l u = (rows_above p batch house h n u).0
+  row_table (suc n) l u = (up.above n u).0
+
+  rise : (j k : ℕ) → j ≤ k → k < length p / 64 → byte_of p j 0 ≤ byte_of p k 0
+  rise j zero l u = let x : j ≡ 0 = omega arith in rw x (omega arith)
+  rise j (suc k) l u =
+      let i = rise j k in
+      elim (dec_le j k) [
+        | yes g ↦ (let e = i g (omega arith) in let r = (up.above k u).1 in omega arith)
+        | no g ↦ (let x : j ≡ suc k = omega arith in rw x (omega arith))
+      ]
 
   -- a record from table t's start on is of table t or a later one; one before that start is not
   from_start : (t n : ℕ) → t ≤ tables → start t ≤ n → n < length p / 64 → t ≤ byte_of p n 0
   from_start t n k l u =
       let e = starts-at p 1 t k in
       let f = starts_from p 1 t k in
-      let r = all in
+      let r = up.all in
       let low = row_table (start t) f (omega arith) in
       let a = at_first p t (records_of p) 1 (rw (sym e) (omega arith)) in
-      let b = rise p batch house h (start t) n l u in
-      let g = leb-true t (byte_of p (start t) 0) (rw (lt-ltb (start t) (records_of p) (omega arith), le-ltb (byte_of p (start t) 0) 2 low) at (rw (sym e) at a)) in
+      let b = rise (start t) n l u in
+      let c = rw (lt-ltb (start t) (records_of p) (omega arith), le-ltb (byte_of p (start t) 0) 2 low) at (rw (sym e) at a) in
+      let g = leb-true t (byte_of p (start t) 0) c in
       omega arith
 
   before_start : (t n : ℕ) → t ≤ tables → 1 ≤ n → n < start t → byte_of p n 0 < t
@@ -85,8 +95,8 @@ module _ (p batch house : List ℕ) (h : first (packing_checks Enclave p batch h
   row_is : (t n : ℕ) → t < tables → IsRow p t n → (1 ≤ n) × (n < length p / 64) × (byte_of p n 0 ≡ t)
   row_is t n k r =
       let f = starts_from p 1 t (omega arith) in
-      let w = starts-within p 1 (t + 1) (omega arith) some in
-      let e = all in
+      let w = starts-within p 1 (t + 1) (omega arith) up.some in
+      let e = up.all in
       let l : (1 ≤ n) × (n < length p / 64) = (omega (arith, r.0), omega (arith, r.1)) in
       let a = from_start t n (omega arith) r.0 l.1 in
       let b = before_start (t + 1) n (omega arith) l.0 r.1 in
@@ -98,5 +108,14 @@ module _ (p batch house : List ℕ) (h : first (packing_checks Enclave p batch h
     elim (dec_le (start (t + 1)) n) [ yes y ↦ absurd (let b = from_start (t + 1) n (omega arith) y u in omega arith) | no y ↦ omega arith ],
   )
 
-  pub rows_by_byte : RowsByByte p
-  rows_by_byte t n k = (row_is t n k, record_is t n k)
+  pub rows_of_tables : RowsByByte p
+  rows_of_tables t n k = (row_is t n k, record_is t n k)
+
+-- so are the rows of an enclave's pack that passes the packing rules
+pub rows_rise : (p batch house : List ℕ) → Packed Enclave p batch house → RowsRise p
+rows_rise p batch house h =
+    let f = fits Enclave p batch house h in
+    record { some = some_record p f.some f.whole; all = records_all p f.few; above = rows_above p batch house h }
+
+pub rows_by_byte : (p batch house : List ℕ) → Packed Enclave p batch house → RowsByByte p
+rows_by_byte p batch house h = rows_of_tables p (rows_rise p batch house h)

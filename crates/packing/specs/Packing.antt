@@ -1,11 +1,11 @@
 -- The packing rules in their order (document 01, "The pack" and "Packing"). Assumes nothing.
-use Rattle.std.specs.Prelude.{ℕ, zero, suc, ◌*◌, ◌/◌, ◌%◌, Bool, ◌&&◌, ◌||◌, List, [], ◌∷◌, ltb, leb, eqb, false, true, length, Result, Ok, Err}
+use Rattle.std.specs.Prelude.{ℕ, zero, suc, ◌*◌, ◌/◌, ◌%◌, Bool, ◌&&◌, ◌||◌, ◌≡◌, List, [], ◌∷◌, ltb, leb, eqb, false, true, length, Result, Ok, Err}
 use Rattle.identity.specs.declared.IdentityPlace.{IdentityPlace}
 use Rattle.identity.specs.Utf8.{utf8}
 use Rattle.identity.specs.Text.{place_inside, identity_text}
 use Rattle.answers.specs.declared.Refusal.{Refusal}
 use Rattle.answers.specs.declared.Refusal.TheVariants.{Length, TextTooLong, TableOutOfPlace, StrayByte, IdentityOutside, NotUtf8}
-use Rattle.answers.specs.Checks.{Check, need, run, Outcome, passed}
+use Rattle.answers.specs.Checks.{Check, need, first, run, Outcome, passed}
 use Rattle.schema.specs.Layout.{layouts}
 use Rattle.schema.specs.Bytes.{byte_of, bit_of}
 use Rattle.schema.specs.Rows.{field, place}
@@ -62,6 +62,10 @@ packing_checks kind p batch house =
     ∷ need (text_fits batch) (TextTooLong false)
     ∷ need (text_fits house) (TextTooLong true)
     ∷ run (record_checks kind p batch house) 0 (length p / 64)
+
+-- a pack that passes the packing rules with the texts lent
+abbrev pub Packed : PackKind → List ℕ → List ℕ → List ℕ → Type 0
+Packed kind p batch house = first (packing_checks kind p batch house) ≡ passed
 
 -- the outcome of an answer that lends the pack where it passes
 abbrev pub pack_outcome : Result Pack Refusal → Outcome
