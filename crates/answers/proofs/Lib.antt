@@ -6,3 +6,4 @@ pub mod RefusalNumbers
 pub mod Tests
 pub mod Each
 pub mod Passed
+pub mod Alike

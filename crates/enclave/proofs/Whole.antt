@@ -104,6 +104,10 @@ module _ (p batch house : List ℕ) where
   unfolding starts_left
   starts_found old e = rw e refl
 
+  pub pack_answer : first (packing_checks Enclave p batch house) ≡ passed → enclave_answer p batch house ≡ image_answer (pack_image p batch house)
+  unfolding enclave_answer
+  pack_answer e = rw e refl
+
   pub packed_answer : first (packing_checks Enclave p batch house) ≡ passed → enclave_answer p batch house ≡ answer_numbers (image_result (pack_image p batch house))
   unfolding enclave_answer image_answer image_result
   packed_answer e = rw e (sym (numbers-of (first (enclave_checks (pack_image p batch house))) (links (pack_image p batch house))))

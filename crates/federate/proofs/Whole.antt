@@ -70,6 +70,10 @@ module _ (p batch house : List ℕ) where
   unfolding federate_answer
   packing_refused e = rw e refl
 
+  pub line_answer : first (packing_checks Federate p batch house) ≡ passed → federate_answer p batch house ≡ packed_answer p batch house
+  unfolding federate_answer
+  line_answer e = rw e refl
+
   pub packed_numbers : first (packing_checks Federate p batch house) ≡ passed → federate_answer p batch house ≡ federate_numbers (federate_result p batch house)
   unfolding federate_answer packed_answer federate_result
   packed_numbers e = rw e (sym (numbers-of (first (federate_checks p batch house)) (record { enclaves = enclaves_of p; links = federate_links p batch house })))

@@ -18,6 +18,7 @@ use Rattle.enclave.specs.Passes.{pass_checks, checks_of, enclave_checks}
 use Rattle.enclave.specs.Answer.{image_answer, pack_image, enclave_answer}
 use Rattle.larger_bounds.specs.Images.{with_bounds}
 use Rattle.larger_bounds.specs.Packs.{state_bound, action_bound, DifferInStorage, SlotAnswer, EnclaveAnswerStays}
+use Rattle.enclave.proofs.Whole.{pack_answer}
 use Rattle.enclave.proofs.Opened.{the_passes, the_rows, the_lists}
 use Rattle.larger_bounds.proofs.Larger.{enclave-looser}
 use Rattle.larger_bounds.proofs.SamePacks.{in_tables, same_tables, image-same}
@@ -60,14 +61,9 @@ module _ (p q batch house : List ℕ) (d : DifferInStorage p q) (single : (n : �
   unfolding image_answer
   pack-stays h g o = rw (looser-stays (pack-looser h g) (λ r. o (slot-answer m r)), pack-links)
 
--- a pack that passes the packing rules has its image's answer
-pack-answer : (p batch house : List ℕ) → Packed Enclave p batch house → enclave_answer p batch house ≡ image_answer (pack_image p batch house)
-unfolding enclave_answer
-pack-answer p batch house h = rw h
-
 pub answer-stays : EnclaveAnswerStays
 answer-stays p q batch house h k d b o =
     let bounds = b 0 (first_is Enclave p batch house h) in
-    pack-answer q batch house k
-    ∙ pack-stays p q batch house d (one_enclave p batch house h) bounds.0 bounds.1 (λ e. o (rw (pack-answer p batch house h) e))
-    ∙ sym (pack-answer p batch house h)
+    pack_answer q batch house k
+    ∙ pack-stays p q batch house d (one_enclave p batch house h) bounds.0 bounds.1 (λ e. o (rw (pack_answer p batch house h) e))
+    ∙ sym (pack_answer p batch house h)

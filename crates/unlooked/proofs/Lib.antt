@@ -1,0 +1,10 @@
+pub mod Links
+pub mod Rows
+pub mod Lists
+pub mod Images
+pub mod Bytes
+pub mod RecordRows
+pub mod Packs
+pub mod Parts
+pub mod Federates
+pub mod Example
