@@ -10,9 +10,6 @@ mod measure;
 mod names;
 mod packs;
 mod refused;
-#[allow(dead_code)]
-#[path = "../../gen/src/rng.rs"]
-mod rng;
 mod routes;
 mod rows;
 mod rules;
@@ -27,6 +24,7 @@ mod wide;
 
 use families::FAMILIES;
 use measure::{Effort, LEAST};
+use pack::rng;
 use std::process::ExitCode;
 
 const TEXTS: &str = "texts";

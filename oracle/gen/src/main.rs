@@ -7,11 +7,11 @@ mod grow;
 mod identities;
 mod line;
 mod plan;
-mod rng;
 mod styles;
 mod texts;
 mod tiny;
 
+use pack::rng;
 use std::fs::File;
 use std::io::{self, BufWriter, Write};
 use std::process::ExitCode;

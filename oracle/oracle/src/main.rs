@@ -8,6 +8,7 @@ mod show;
 mod site_list;
 mod sites;
 mod stats;
+mod unlooked;
 mod worth;
 
 use check::answer;
@@ -26,6 +27,7 @@ oracle sample CORPUS OUT ANSWERS [COUNT [deadlines]]
 oracle with TABLE CORPUS OUT         the cases that have a record of a table
 oracle compare ANSWERS REPLAYED      two files of answer lines, line by line
 oracle worth CORPUS                  tries what a yes is worth on each accepted station and line
+oracle unlooked CORPUS OUT           changes what the check does not look at in each case: one answer
 oracle lines                         the papers' lines tried by hand
 oracle lines OUT ANSWERS             the same as a corpus and its answers";
 
@@ -44,6 +46,7 @@ fn main() -> ExitCode {
         ["with", table, corpus, out] => case::with(table, corpus, out),
         ["compare", answers, replayed] => compare::print(answers, replayed),
         ["worth", corpus] => worth::print(corpus),
+        ["unlooked", corpus, out] => unlooked::print(corpus, out),
         ["lines"] => lines::print(),
         ["lines", out, answers] => lines::write(out, answers),
         [corpus] if !corpus.starts_with('-') => answers(corpus),

@@ -3,6 +3,7 @@ pub mod corpus;
 pub mod layout;
 pub mod names;
 pub mod packing;
+pub mod rng;
 pub mod row;
 pub mod utf8;
 
