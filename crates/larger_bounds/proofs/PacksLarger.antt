@@ -8,14 +8,13 @@ use Rattle.answers.specs.Slots.{SlotRefusal}
 use Rattle.answers.proofs.Looser.{Looser, looser-stays}
 use Rattle.schema.specs.Bytes.{byte_of}
 use Rattle.packing.specs.declared.PackKind.TheVariants.{Enclave}
-use Rattle.packing.specs.Packing.{Packed}
 use Rattle.packing.specs.Starts.{table_starts}
 use Rattle.packing.proofs.Packed.{first_is, one_enclave}
 use Rattle.packing.proofs.SameTables.{same_starts}
 use Rattle.checks.specs.Image.{Image, image}
 use Rattle.scope_checks.specs.Links.{links}
 use Rattle.enclave.specs.Passes.{pass_checks, checks_of, enclave_checks}
-use Rattle.enclave.specs.Answer.{image_answer, pack_image, enclave_answer}
+use Rattle.enclave.specs.Answer.{image_answer, pack_image}
 use Rattle.larger_bounds.specs.Images.{with_bounds}
 use Rattle.larger_bounds.specs.Packs.{state_bound, action_bound, DifferInStorage, SlotAnswer, EnclaveAnswerStays}
 use Rattle.enclave.proofs.Whole.{pack_answer}

@@ -1,5 +1,5 @@
 -- Bytes that no line hides are the same in two packs that differ only in what is not looked at, and so are fields of such bytes. Assumes nothing.
-use Prim.Native.Nat.{ℕ, zero, suc, ◌+◌, ◌*◌, ◌<◌}
+use Prim.Native.Nat.{ℕ, zero, suc, ◌+◌, ◌*◌, ◌<◌, ◌≤◌}
 use mathlib.Core.Bool.{Bool, true, false, true≢false, not, ◌&&◌, cond}
 use mathlib.Core.Path.{◌≡◌, refl, ◌∙◌, sym, ap, fun_ext}
 use mathlib.Core.List.{List, [], ◌∷◌}
@@ -13,8 +13,10 @@ use Rattle.schema.specs.Bytes.{byte_of}
 use Rattle.schema.specs.Rows.{field}
 use Rattle.packing.specs.declared.PackKind.{PackKind}
 use Rattle.packing.specs.declared.PackKind.TheVariants.{Enclave, Federate}
+use Rattle.packing.specs.Clean.{zeros}
+use Rattle.packing.proofs.Zeros.{zeros_number}
 use Rattle.packing.proofs.SameTables.{SameTables}
-use Rattle.unlooked.specs.Packs.{Line, record_of, everywhere, unlooked, hides, looked_by, looked, DifferUnlooked}
+use Rattle.unlooked.specs.Packs.{Line, record_of, zero_bytes, everywhere, unlooked, hides, looked_by, looked, DifferUnlooked}
 
 -- no line speaks of byte j of table t; nor of its k bytes from o on, which lie in the record
 abbrev pub kept : List Line → ℕ → ℕ → Bool
@@ -40,6 +42,17 @@ table_kept Federate t = simp and-false
 
 in_record : (p : List ℕ) (n j : ℕ) → j < 64 → record_of p n j ≡ byte_of p n j
 in_record p n j l = rw (lt-ltb j 64 l) refl
+
+-- bytes of a record are zero where their number is 0
+bytes_zero : (p : List ℕ) (n o k : ℕ) → o + k ≤ 64 → zero_bytes (record_of p n) o k ≡ zeros p (n * 64 + o) k
+unfolding zeros
+bytes_zero p n o zero h = refl
+bytes_zero p n o (suc k) h =
+    let e : n * 64 + o + k ≡ n * 64 + (o + k) = omega arith in
+    rw (bytes_zero p n o k (omega arith), in_record p n (o + k) (omega arith), e) refl
+
+pub number_zero : (p : List ℕ) (n o k : ℕ) → o + k ≤ 64 → zero_bytes (record_of p n) o k ≡ eqb (number k p (n * 64 + o)) 0
+number_zero p n o k h = bytes_zero p n o k h ∙ zeros_number p (n * 64 + o) k
 
 -- the fields of a record of table t that no line hides, 0 for the others
 abbrev pub seen : List Line → ℕ → Layout → (ℕ → ℕ) → ℕ → ℕ

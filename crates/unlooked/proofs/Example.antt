@@ -18,7 +18,7 @@ use Rattle.packing.specs.declared.PackKind.TheVariants.{Enclave, Federate}
 use Rattle.packing.specs.Clean.{zeros, clean}
 use Rattle.packing.specs.Packing.{identity_checks, record_checks, packing_checks}
 use Rattle.unlooked.specs.Packs.{record_of, unlooked, looked_by, looked, DifferUnlooked}
-use Rattle.unlooked.specs.Example.{bytes_of, rows, station, line_of, StationsDiffer, LinesDiffer}
+use Rattle.unlooked.specs.Example.{bytes_of, rows, deadline, station, line_of, StationsDiffer, LinesDiffer}
 
 -- a test holds of every number below n
 unfoldable all_below : (ℕ → Bool) → ℕ → Bool
@@ -60,11 +60,11 @@ differ_if kind p q records e f h = (e, bytes)
         ]
 
 pub stations_differ : StationsDiffer
-unfolding all_below same_at same_bytes bytes_of rows station
+unfolding all_below same_at same_bytes bytes_of rows deadline station
     first run packing_checks record_checks identity_checks clean zeros layouts number allowed scalar_at decode_after
-stations_differ = (refl, refl, differ_if Enclave (station 0 0) (station 7 1) 8 refl (omega arith) refl)
+stations_differ = (refl, refl, differ_if Enclave (station 0 0) (station 7 1) 9 refl (omega arith) refl)
 
 pub lines_differ : LinesDiffer
-unfolding all_below same_at same_bytes bytes_of rows line_of
+unfolding all_below same_at same_bytes bytes_of rows deadline line_of
     first run packing_checks record_checks identity_checks clean zeros layouts number allowed scalar_at decode_after
-lines_differ = (refl, refl, differ_if Federate (line_of 0 0) (line_of 7 1) 9 refl (omega arith) refl)
+lines_differ = (refl, refl, differ_if Federate (line_of 0 0) (line_of 7 1) 10 refl (omega arith) refl)

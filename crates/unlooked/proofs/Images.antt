@@ -18,7 +18,7 @@ use Rattle.accepted.proofs.Rows.{action_holds, port_holds, reaction_holds, scope
 use Rattle.unlooked.specs.Images.{SameRows, RowsDecide}
 use Rattle.unlooked.proofs.Links.{Known, links_same, sum_same}
 use Rattle.unlooked.proofs.Rows.{own, own_same, reactor_alike, action_alike, port_alike, reaction_alike, mode_alike, scope_alike}
-use Rattle.unlooked.proofs.Lists.{action_triggers_alike, port_triggers_alike, enabled_modes_alike, scope_lists_alike, index_alike, startup_alike, level_entry_alike, lifecycle_entry_alike, shutdown_reaction_alike, shutdown_action_alike, route_alike, binding_id_alike}
+use Rattle.unlooked.proofs.Lists.{action_triggers_alike, port_triggers_alike, enabled_modes_alike, scope_lists_alike, index_alike, startup_alike, level_entry_alike, lifecycle_entry_alike, shutdown_reaction_alike, shutdown_action_alike, route_alike, binding_id_alike, deadline_alike}
 
 module _ (m n : Image) (s : SameRows m n) where
   abbrev x : Image
@@ -84,7 +84,8 @@ module _ (m n : Image) (s : SameRows m n) where
       (λ _. pass_alike _ _ (shutdown_action_alike m n s)
       (λ _. pass_alike _ _ (route_alike m n s)
       (λ _. pass_alike _ _ (binding_id_alike m n s)
-      (λ _. none_alike))))))))))))))))))))))))))))))
+      (λ _. pass_alike _ _ (deadline_alike m n s)
+      (λ _. none_alike)))))))))))))))))))))))))))))))
 
 -- the checks of both, and their links where they pass
 pub checks_alike : (m n : Image) → SameRows m n → Alike (enclave_checks m) (enclave_checks n)

@@ -1,4 +1,4 @@
--- The checks of list tables' entries, routes and bindings: an entry of a range that passed lies in its table. Assumes nothing.
+-- The checks of list tables' entries, routes, bindings and deadlines: an entry of a range that passed lies in its table. Assumes nothing.
 use Prim.Native.Nat.{ℕ, ◌+◌, ◌-◌, ◌<◌, ◌≤◌}
 use mathlib.Core.Bool.{true}
 use mathlib.Core.Path.{◌≡◌, refl}
@@ -13,6 +13,7 @@ use Rattle.schema.specs.declared.entries.LevelReactionImage.{LevelReactionImage}
 use Rattle.checks.specs.Image.{Image}
 use Rattle.checks.specs.Lists.{entry_index, level_ref_checks, entry_checks, listed_checks, range_of_checks, no_more, action_checks, level_of, reaction_of, levels_checks, lifecycles_checks}
 use Rattle.list_checks.specs.ListTables.{named_checks, index_checks, startup_checks, trigger_checks, action_trigger_checks, port_trigger_checks, enabled_mode_checks, enabled_modes_checks, scope_list_checks, listed_entry_checks, level_entry_checks, lifecycle_entry_checks, shutdown_reaction_checks, shutdown_action_checks}
+use Rattle.list_checks.specs.Deadlines.{deadline_checks}
 use Rattle.list_checks.specs.Routes.{route_checks, binding_id_checks}
 use Rattle.accepted.proofs.Rows.{ScopeHolds}
 use Rattle.unlooked.specs.Images.{one_of, index_tables, level_tables, startup_tables, lifecycle_tables, SameRows}
@@ -131,3 +132,7 @@ module _ (m n : Image) (s : SameRows m n) where
   pub binding_id_alike : (i : ℕ) → i < m.rows 24 → Alike (binding_id_checks m i) (binding_id_checks (own m n s) i)
   unfolding binding_id_checks
   binding_id_alike i l = rw (s.bindings i l, s.bindings (i - 1) (omega arith)) (alike_same _)
+
+  pub deadline_alike : (i : ℕ) → i < m.rows 25 → Alike (deadline_checks m i) (deadline_checks (own m n s) i)
+  unfolding deadline_checks
+  deadline_alike i l = rw (s.deadlines i l, s.deadlines (i - 1) (omega arith)) (alike_same _)

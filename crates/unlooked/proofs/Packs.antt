@@ -22,7 +22,7 @@ use Rattle.unlooked.specs.Images.{one_of, index_tables, level_tables, startup_ta
 use Rattle.unlooked.specs.Packs.{DifferUnlooked, EnclaveAnswerSame}
 use Rattle.unlooked.proofs.Images.{rows_decide}
 use Rattle.unlooked.proofs.Bytes.{same_tables}
-use Rattle.unlooked.proofs.RecordRows.{reactor_same, action_same, port_same, reaction_same, mode_same, scope_same, index_same, level_same, startup_same, lifecycle_same, route_part_same, binding_same, id_same, state_same, action_slots_same}
+use Rattle.unlooked.proofs.RecordRows.{reactor_same, action_same, port_same, reaction_same, mode_same, scope_same, index_same, level_same, startup_same, lifecycle_same, route_part_same, binding_same, deadline_same, id_same, state_same, action_slots_same}
 
 -- what holds of each of some tables holds of one of them
 abbrev EachOf : (ℕ → Type 0) → List ℕ → Type 0
@@ -111,6 +111,7 @@ module _ (p q : List ℕ) (d : DifferUnlooked Enclave p q) (batch house : List �
         lifecycles = listed lifecycle_at lifecycle_tables lifecycles;
         routes = λ i l. route_part_same p q d _ (row_of 23 i (omega arith) l);
         bindings = λ i l. binding_same p q d _ (row_of 24 i (omega arith) l);
+        deadlines = λ i l. deadline_same p q d _ (row_of 25 i (omega arith) l);
         enclave_id = id_same p q d 0 first;
         text = refl;
         state_slots = state_same p q d 0 first;

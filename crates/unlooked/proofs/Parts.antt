@@ -13,7 +13,7 @@ use Rattle.schema.specs.Records.{is_of}
 use Rattle.packing.specs.declared.PackKind.TheVariants.{Enclave}
 use Rattle.federate.specs.Records.{enclave_before, enclave_pack}
 use Rattle.federate.specs.Enclaves.{id_at}
-use Rattle.federate.proofs.Parts.{part_bytes, byte_inside, byte_outside}
+use Rattle.federate.proofs.PartBytes.{many, byte_inside, byte-outside}
 use Rattle.federate.proofs.SameEnclaves.{same_bytes, same_lengths}
 use Rattle.unlooked.specs.Packs.{record_of, unlooked, looked_by, looked, DifferUnlooked}
 use Rattle.unlooked.proofs.Bytes.{same_tables}
@@ -21,23 +21,23 @@ use Rattle.unlooked.proofs.RecordRows.{id_same, no_id_same}
 
 -- a record of an enclave's pack is the line's, or is past it
 module _ (p : List ℕ) (n m : ℕ) where
-  record_inside : suc m * 64 ≤ part_bytes p n → record_of (enclave_pack p n) m ≡ record_of p (n + m)
+  record_inside : suc m * 64 ≤ many p n → record_of (enclave_pack p n) m ≡ record_of p (n + m)
   record_inside h = fun_ext (λ j. cases (ltb j 64) (λ e. let l = ltb-true j 64 e in rw e (byte_inside p n m j (omega arith))) (λ e. rw e refl))
 
-  record_outside : part_bytes p n ≤ m * 64 → record_of (enclave_pack p n) m ≡ (λ j. 0)
-  record_outside h = fun_ext (λ j. cases (ltb j 64) (λ e. rw e (byte_outside p n m j (omega arith))) (λ e. rw e refl))
+  record_outside : many p n ≤ m * 64 → record_of (enclave_pack p n) m ≡ (λ j. 0)
+  record_outside h = fun_ext (λ j. cases (ltb j 64) (λ e. rw e (byte-outside p n m j (omega arith))) (λ e. rw e refl))
 
 module _ (p q : List ℕ) (d : DifferUnlooked Enclave p q) where
   pub parts_differ : (n : ℕ) → DifferUnlooked Enclave (enclave_pack p n) (enclave_pack q n)
   parts_differ n = (same_lengths p q (same_tables Enclave p q d) n, bytes)
     where
-      same : part_bytes q n ≡ part_bytes p n
+      same : many q n ≡ many p n
       same = same_bytes p q (same_tables Enclave p q d) n
 
       bytes : (m j : ℕ) → j < 64 → looked Enclave (enclave_pack q n) m j ≡ looked Enclave (enclave_pack p n) m j
       bytes m j l =
           let see : (ℕ → ℕ) → ℕ = λ r. looked_by (unlooked Enclave) r j in
-          elim (dec_le (part_bytes p n) (m * 64)) [
+          elim (dec_le (many p n) (m * 64)) [
             | yes g ↦ ap see (record_outside q n m (rw same g) ∙ sym (record_outside p n m g))
             | no g ↦ ap see (record_inside q n m (rw same (omega arith))) ∙ d.1 (n + m) j l ∙ ap see (sym (record_inside p n m (omega arith)))
           ]

@@ -14,12 +14,12 @@ use Rattle.schema.specs.Indexes.{ModeIndex}
 use Rattle.schema.specs.declared.index.Transition.{Transition}
 use Rattle.schema.specs.declared.index.ActionTiming.TheVariants.{Timer, Shutdown}
 use Rattle.schema.specs.Bytes.{byte_of, bit_of}
-use Rattle.schema.specs.Rows.{field, row, transition_of, timing_of, federate_of, enclave_of, reactor_of, action_of, port_of, reaction_of, mode_of, scope_of, index_of, level_of, startup_of, lifecycle_of, route_of, binding_of, federate_at, enclave_at, reactor_at, action_at, port_at, reaction_at, mode_at, scope_at, index_at, level_at, startup_at, lifecycle_at, route_at, binding_at}
+use Rattle.schema.specs.Rows.{field, row, transition_of, timing_of, federate_of, enclave_of, reactor_of, action_of, port_of, reaction_of, mode_of, scope_of, index_of, level_of, startup_of, lifecycle_of, route_of, binding_of, deadline_of, federate_at, enclave_at, reactor_at, action_at, port_at, reaction_at, mode_at, scope_at, index_at, level_at, startup_at, lifecycle_at, route_at, binding_at, deadline_at}
 use Rattle.packing.specs.declared.PackKind.{PackKind}
 use Rattle.packing.specs.declared.PackKind.TheVariants.{Enclave, Federate}
-use Rattle.checks.specs.Image.{is_standard, action_part, effect_target, reaction_part, route_part}
+use Rattle.checks.specs.Image.{is_standard, action_part, effect_target, reaction_part, route_part, deadline_part}
 use Rattle.unlooked.specs.Packs.{unlooked, DifferUnlooked}
-use Rattle.unlooked.proofs.Bytes.{kept, seen, same_tables, byte_same, made_same}
+use Rattle.unlooked.proofs.Bytes.{kept, seen, same_tables, byte_same, made_same, number_zero}
 
 -- what two bytes have in common of which the same is left
 low_bit : (a b : ℕ) → a % 2 ≡ b % 2 → bit_of a 0 ≡ bit_of b 0
@@ -52,6 +52,12 @@ target_is :
     → effect_target (then_some present (record { transition = x; target = m })) ≡ effect_target (then_some present (record { transition = y; target = m }))
 target_is true x y m = refl
 target_is false x y m = refl
+
+bit_same : (a b : Bool) → ◌≡◌ {A = ℕ} (cond a 1 0) (cond b 1 0) → a ≡ b
+bit_same true true h = refl
+bit_same true false h = absurd (omega arith)
+bit_same false true h = absurd (omega arith)
+bit_same false false h = refl
 
 -- actions, and reactions, with the same fields and with what is left of bytes 1 and 2 the same
 action_head :
@@ -146,6 +152,15 @@ module _ (p q : List ℕ) (d : DifferUnlooked Enclave p q) (n : ℕ) where
       (λ f. rw (house, low_bit (byte_of q n 2) (byte_of p n 2) bits) refl)
       (λ f b k. refl)
       e
+
+  pub deadline_same : Table 25 → deadline_part (deadline_at q n) ≡ deadline_part (deadline_at p n)
+  unfolding deadline_at
+  deadline_same e =
+      let reaction = made_same Enclave p q d n 25 e (λ f. f 0) layout.deadlines (λ f. refl) in
+      let zero_q = number_zero q n 8 8 (omega arith) in
+      let zero_p = number_zero p n 8 8 (omega arith) in
+      let zero = bit_same _ _ (rw (in_q 25 e, e) at (d.1 n 8 (omega arith))) in
+      rw (reaction, ← zero_q, ← zero_p, zero) refl
 
   -- an enclave's identity, also as it is read from the federate's record; the slot bounds
   abbrev id_of : (ℕ → ℕ) → ℕ → ℕ → IdentityPlace

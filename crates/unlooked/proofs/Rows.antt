@@ -37,6 +37,7 @@ module _ (m n : Image) (s : SameRows m n) where
         lifecycles = n.lifecycles;
         routes = n.routes;
         bindings = n.bindings;
+        deadlines = n.deadlines;
         enclave_id = m.enclave_id;
         text = m.text;
         state_slots = m.state_slots;
@@ -59,6 +60,7 @@ module _ (m n : Image) (s : SameRows m n) where
         lifecycles = n.lifecycles;
         routes = n.routes;
         bindings = n.bindings;
+        deadlines = n.deadlines;
         enclave_id = s.enclave_id e;
         text = s.text e;
         state_slots = s.state_slots e;

@@ -30,13 +30,17 @@ rows v k =
     ++ (bytes_of 19 0 0 (after 4 8 v)
     ++ bytes_of 20 0 0 (after 4 8 v))))))
 
--- a station with a route: every byte of the list is v, every bit and kind k
+-- a deadline that is not zero
+unfoldable pub deadline : ℕ → List ℕ
+deadline v = bytes_of 25 0 0 (after 4 8 (v + 1))
+
+-- a station with a route and a deadline: every byte of the list is v, or v + 1 for the deadline; every bit and kind is k
 unfoldable pub station : ℕ → ℕ → List ℕ
-station v k = rows v k ++ bytes_of 23 0 (2 * k) (id ++ after 4 8 v)
+station v k = rows v k ++ (bytes_of 23 0 (2 * k) (id ++ after 4 8 v) ++ deadline v)
 
 -- a line with such a station, whose route is the same for all v and k
 unfoldable pub line_of : ℕ → ℕ → List ℕ
-line_of v k = bytes_of 0 0 0 (id ++ (id ++ (id ++ after 15 1 1))) ++ (rows v k ++ bytes_of 23 0 0 id)
+line_of v k = bytes_of 0 0 0 (id ++ (id ++ (id ++ after 15 1 1))) ++ (rows v k ++ (bytes_of 23 0 0 id ++ deadline v))
 
 abbrev pub text : List ℕ
 text = 97 ∷ []

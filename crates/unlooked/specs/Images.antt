@@ -36,6 +36,7 @@ pub record SameRows (m n : Image) : Type 0 where
   pub lifecycles : (t i : ℕ) → one_of lifecycle_tables t ≡ true → i < m.rows t → n.lifecycles t i ≡ m.lifecycles t i
   pub routes : (i : ℕ) → i < m.rows 23 → n.routes i ≡ m.routes i
   pub bindings : (i : ℕ) → i < m.rows 24 → n.bindings i ≡ m.bindings i
+  pub deadlines : (i : ℕ) → i < m.rows 25 → n.deadlines i ≡ m.deadlines i
   pub enclave_id : n.enclave_id ≡ m.enclave_id
   pub text : n.text ≡ m.text
   pub state_slots : n.state_slots ≡ m.state_slots

@@ -1,5 +1,5 @@
 -- What the check does not look at, field by field: packs that differ only there have one answer. Assumes nothing.
-use Rattle.std.specs.Prelude.{ℕ, ◌+◌, ◌/◌, ◌%◌, ◌<◌, Bool, ◌&&◌, cond, ◌≡◌, List, [], ◌∷◌, ◌++◌, ltb, leb, eqb, length}
+use Rattle.std.specs.Prelude.{ℕ, zero, suc, ◌+◌, ◌/◌, ◌%◌, ◌<◌, Bool, true, ◌&&◌, cond, ◌≡◌, List, [], ◌∷◌, ◌++◌, ltb, leb, eqb, length}
 use Rattle.schema.specs.Layout as layout
 use Rattle.schema.specs.Layout.{Layout, bytes, offset, field_at}
 use Rattle.schema.specs.Bytes.{byte_of}
@@ -40,6 +40,14 @@ other_bits r j = r j / 2
 abbrev pub one_kind : (ℕ → ℕ) → ℕ → ℕ
 one_kind r j = cond (ltb (r j) 2) 0 (r j)
 
+-- and of a deadline's nanoseconds, whether they are zero
+abbrev pub zero_bytes : (ℕ → ℕ) → ℕ → ℕ → Bool
+zero_bytes r o zero = true
+zero_bytes r o (suc k) = zero_bytes r o k && eqb (r (o + k)) 0
+
+abbrev pub zero_or_not : (ℕ → ℕ) → ℕ → ℕ
+zero_or_not r j = cond (zero_bytes r (offset layout.deadlines 1) 8) 1 0
+
 -- the list for stations and lines; the packing rules give a period's bit to timers only, and a shutdown's delay no value but 0
 abbrev pub everywhere : List Line
 everywhere =
@@ -62,6 +70,8 @@ everywhere =
     ∷ field 15 layout.startups 1 nothing
     ∷ field 19 layout.startups 1 nothing
     ∷ field 20 layout.startups 1 nothing
+    -- deadlines that are not zero
+    ∷ field 25 layout.deadlines 1 zero_or_not
     ∷ []
 
 -- for stations only

@@ -2,7 +2,7 @@
 use crate::{for_each, Done};
 use check::{answer, Answer};
 use pack::corpus::{Case, Kind};
-use pack::layout::{numbers, ACTIONS, ENCLAVE, REACTIONS, ROUTES, TIMER};
+use pack::layout::{numbers, ACTIONS, DEADLINES, ENCLAVE, REACTIONS, ROUTES, TIMER};
 use pack::rng::Rng;
 use pack::row::Row;
 use pack::{packing, RECORD};
@@ -14,6 +14,8 @@ use std::io::{self, BufWriter, Write};
 enum Change {
     /// The number at this place, to any other.
     Number(usize),
+    /// The number at this place, which is not zero, to any other that is not.
+    NotZero(usize),
     /// These bits of byte 1.
     Bits(u8),
     /// These bits of byte 2.
@@ -35,7 +37,7 @@ const fn field(name: &'static str, table: u8, has: fn(&Row) -> bool, change: Cha
     Field { name, table, in_lines: table != ROUTES, has, change }
 }
 
-const LIST: [Field; 15] = [
+const LIST: [Field; 16] = [
     field("event capacity", ENCLAVE, every, Change::Number(4)),
     field("payload bytes", ENCLAVE, every, Change::Number(5)),
     field("state bytes", ENCLAVE, every, Change::Number(6)),
@@ -49,6 +51,7 @@ const LIST: [Field; 15] = [
     field("delay of table 15", 15, every, Change::Number(1)),
     field("delay of table 19", 19, every, Change::Number(1)),
     field("delay of table 20", 20, every, Change::Number(1)),
+    field("a deadline that is not zero", DEADLINES, is_not_zero, Change::NotZero(1)),
     field("a route's domain", ROUTES, every, Change::Second(2)),
     field("a route's delay", ROUTES, every, Change::Number(3)),
 ];
@@ -69,6 +72,10 @@ fn has_period(action: &Row) -> bool {
     is_timer(action) && action.bits & 2 != 0
 }
 
+fn is_not_zero(deadline: &Row) -> bool {
+    deadline.numbers[1] != 0
+}
+
 fn has_effect(reaction: &Row) -> bool {
     reaction.bits & 2 != 0
 }
@@ -83,21 +90,25 @@ fn any(rng: &mut Rng, bytes: usize) -> u64 {
     }
 }
 
-fn other(rng: &mut Rng, bytes: usize, than: u64) -> u64 {
-    let number = any(rng, bytes);
-    if number == than {
-        than ^ 1
-    } else {
-        number
+/// A number of so many bytes, from `least` on, other than the one that stands.
+fn other(rng: &mut Rng, bytes: usize, least: u64, than: u64) -> u64 {
+    loop {
+        let number = any(rng, bytes);
+        if number >= least && number != than {
+            return number;
+        }
     }
+}
+
+fn change_number(rng: &mut Rng, row: &mut Row, at: usize, least: u64) {
+    row.numbers[at] = other(rng, numbers(row.table)[at].bytes, least, row.numbers[at]);
 }
 
 impl Change {
     fn make(self, rng: &mut Rng, row: &mut Row) {
         match self {
-            Change::Number(at) => {
-                row.numbers[at] = other(rng, numbers(row.table)[at].bytes, row.numbers[at]);
-            }
+            Change::Number(at) => change_number(rng, row, at, 0),
+            Change::NotZero(at) => change_number(rng, row, at, 1),
             Change::Bits(bits) => row.bits ^= bits,
             Change::Second(bits) => row.second ^= bits,
             Change::Period => {
