@@ -9,7 +9,7 @@ use lib.Dec.{ltb, leb, eqb}
 use lib.ListN.{length, get_or-eq_default}
 use borrow.Author.Tests.{ltb-true, leb-true, eqb-true}
 use Rattle.answers.proofs.Passed.{Passes, test, rest, item}
-use Rattle.schema.specs.Layout.{layouts}
+use Rattle.schema.specs.Tables.{tables}
 use Rattle.schema.specs.Bytes.{byte_of}
 use Rattle.packing.specs.declared.PackKind.{PackKind}
 use Rattle.packing.specs.declared.PackKind.TheVariants.{Enclave}
@@ -63,7 +63,7 @@ module _ (p batch house : List ℕ) (h : Packed Enclave p batch house) where
   pub rows_above : (n : ℕ) → suc n < length p / 64 → (2 ≤ byte_of p (suc n) 0) × (byte_of p n 0 ≤ byte_of p (suc n) 0)
   rows_above n l =
       let e = both (leb 2 (byte_of p (suc n) 0)) _ (placed-at Enclave p batch house h (suc n) l) in
-      let f = both (ltb (byte_of p (suc n) 0) (length layouts)) _ e.1 in
+      let f = both (ltb (byte_of p (suc n) 0) tables) _ e.1 in
       (leb-true 2 (byte_of p (suc n) 0) e.0, leb-true (byte_of p n 0) (byte_of p (suc n) 0) f.1)
 
   pub one_enclave : (n : ℕ) → byte_of p (suc n) 0 ≡ 1 → ⊥

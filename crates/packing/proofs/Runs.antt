@@ -7,6 +7,7 @@ use Rattle.answers.specs.Checks.{Check, first, run, passed}
 use Rattle.answers.proofs.Loops.{Remaining, run_next}
 use Rattle.answers.proofs.Laws.{first_past}
 use Rattle.schema.specs.Layout.{layouts}
+use Rattle.schema.specs.Tables.{tables}
 use Rattle.schema.specs.Bytes.{IsRecord, byte_of}
 use Rattle.packing.specs.declared.PackKind.{PackKind}
 use Rattle.packing.specs.declared.PackKind.TheVariants.{Enclave, Federate}
@@ -65,7 +66,7 @@ no-identities (suc zero) e = cc
 no-identities (suc (suc t)) e = omega arith
 
 -- after a record of such a table that is in its place, another one of it is in its place too
-known-by : (kind : PackKind) (p : List ℕ) (n : ℕ) → in_place kind p n ≡ true → 2 ≤ byte_of p n 0 → ltb (byte_of p n 0) (length layouts) ≡ true
+known-by : (kind : PackKind) (p : List ℕ) (n : ℕ) → in_place kind p n ≡ true → 2 ≤ byte_of p n 0 → ltb (byte_of p n 0) tables ≡ true
 known-by Enclave p zero e l = let z = eqb-true _ _ e in absurd (omega arith)
 known-by Federate p zero e l = let z = eqb-true _ _ e in absurd (omega arith)
 known-by Enclave p (suc n) e l = (both _ _ (both _ _ e).1).0
@@ -74,7 +75,7 @@ known-by Federate p (suc n) e l =
     (λ t. let z = eqb-true _ _ t in absurd (omega arith))
     (λ f. (both _ _ (both _ _ (both _ _ (rw f at e)).1).1).0)
 
-follows-itself : (kind : PackKind) (t : ℕ) → 2 ≤ t → ltb t (length layouts) ≡ true → table_after kind t t ≡ true
+follows-itself : (kind : PackKind) (t : ℕ) → 2 ≤ t → ltb t tables ≡ true → table_after kind t t ≡ true
 follows-itself Enclave t l e = rw (le-leb 2 t l, e, le-leb t t (omega arith)) refl
 follows-itself Federate t l e =
     let o : eqb t 1 ≡ false = ne_eqb t 1 (λ z. omega arith) in

@@ -6,9 +6,9 @@ use Rattle.identity.specs.Text.{place_inside, identity_text}
 use Rattle.answers.specs.declared.Refusal.{Refusal}
 use Rattle.answers.specs.declared.Refusal.TheVariants.{Length, TextTooLong, TableOutOfPlace, StrayByte, IdentityOutside, NotUtf8}
 use Rattle.answers.specs.Checks.{Check, need, first, run, Outcome, passed}
-use Rattle.schema.specs.Layout.{layouts}
 use Rattle.schema.specs.Bytes.{byte_of, bit_of}
 use Rattle.schema.specs.Rows.{field, place}
+use Rattle.schema.specs.Tables.{tables}
 use Rattle.schema.specs.declared.lent.Pack.{Pack}
 use Rattle.packing.specs.declared.PackKind.{PackKind}
 use Rattle.packing.specs.declared.PackKind.TheVariants.{Enclave, Federate}
@@ -24,7 +24,7 @@ text_fits t = leb (length t) 65536
 
 -- a row of table t after a record of table u: a table from 2 on that is known, in rising order
 abbrev pub row_after : ℕ → ℕ → Bool
-row_after u t = leb 2 t && (ltb t (length layouts) && leb u t)
+row_after u t = leb 2 t && (ltb t tables && leb u t)
 
 -- the first record's table, and the table t of a record after one of table u
 abbrev pub first_table : PackKind → ℕ

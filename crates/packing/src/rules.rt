@@ -21,7 +21,6 @@ use schema::rows::{EnclaveImage, FederateImage};
 pub const TEXT_LIMIT: usize = 65_536;
 
 // Whether a record of `table` may follow one of `previous`.
-#[tactic(auto, unfolding(schema::specs::Layout::layouts))]
 fn row_after(previous: u8, table: u8) -> bool
     ensures { result ≡ row_after previous table }
 {

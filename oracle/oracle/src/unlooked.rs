@@ -165,7 +165,7 @@ pub fn print(corpus: &str, out: &str) -> Done {
     let mut to = BufWriter::new(File::create(out)?);
     let mut tried = Tried::default();
     let mut same = true;
-    let cut = for_each(corpus, |number, case| {
+    let ended = for_each(corpus, |number, case| {
         let kind = case.kind().filter(|kind| packing::check(&case, *kind).is_ok());
         let places = kind.map_or_else(Vec::new, |kind| places(&case, kind));
         if places.is_empty() {
@@ -185,8 +185,8 @@ pub fn print(corpus: &str, out: &str) -> Done {
         }
         other.write(&mut to)
     })?;
-    if cut {
-        return Err(io::Error::other("the corpus is cut off"));
+    if let Some(line) = ended {
+        return Err(io::Error::other(format!("the corpus ends with `{line}`")));
     }
     to.flush()?;
     Ok(tried.print() && same)
