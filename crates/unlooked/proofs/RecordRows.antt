@@ -18,7 +18,7 @@ use Rattle.schema.specs.Rows.{field, row, transition_of, timing_of, federate_of,
 use Rattle.packing.specs.declared.PackKind.{PackKind}
 use Rattle.packing.specs.declared.PackKind.TheVariants.{Enclave, Federate}
 use Rattle.checks.specs.Image.{is_standard, action_part, effect_target, reaction_part, route_part, deadline_part}
-use Rattle.unlooked.specs.Packs.{unlooked, DifferUnlooked}
+use Rattle.unlooked.specs.Packs.{record_of, zero_bytes, unlooked, DifferUnlooked}
 use Rattle.unlooked.proofs.Bytes.{kept, seen, same_tables, byte_same, made_same, number_zero}
 
 -- what two bytes have in common of which the same is left
@@ -159,7 +159,8 @@ module _ (p q : List ℕ) (d : DifferUnlooked Enclave p q) (n : ℕ) where
       let reaction = made_same Enclave p q d n 25 e (λ f. f 0) layout.deadlines (λ f. refl) in
       let zero_q = number_zero q n 8 8 (omega arith) in
       let zero_p = number_zero p n 8 8 (omega arith) in
-      let zero = bit_same _ _ (rw (in_q 25 e, e) at (d.1 n 8 (omega arith))) in
+      let is_zero : List ℕ → Bool = λ r. zero_bytes (record_of r n) 8 8 in
+      let zero : is_zero q ≡ is_zero p = bit_same (is_zero q) (is_zero p) (rw (in_q 25 e, e) at (d.1 n 8 (omega arith))) in
       rw (reaction, ← zero_q, ← zero_p, zero) refl
 
   -- an enclave's identity, also as it is read from the federate's record; the slot bounds
