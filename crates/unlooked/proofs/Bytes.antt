@@ -1,4 +1,4 @@
--- Bytes that no line hides are the same in two packs that differ only in what is not looked at, and so are fields of such bytes. Assumes nothing.
+-- Bytes of which nothing is hidden are the same in two packs that differ only in what is not looked at, and so are fields of such bytes. Assumes nothing.
 use Prim.Native.Nat.{ℕ, zero, suc, ◌+◌, ◌*◌, ◌<◌, ◌≤◌}
 use mathlib.Core.Bool.{Bool, true, false, true≢false, not, ◌&&◌, cond}
 use mathlib.Core.Path.{◌≡◌, refl, ◌∙◌, sym, ap, fun_ext}
@@ -16,19 +16,19 @@ use Rattle.packing.specs.declared.PackKind.TheVariants.{Enclave, Federate}
 use Rattle.packing.specs.Clean.{zeros}
 use Rattle.packing.proofs.Zeros.{zeros_number}
 use Rattle.packing.proofs.SameTables.{SameTables}
-use Rattle.unlooked.specs.Packs.{Line, record_of, zero_bytes, everywhere, unlooked, hides, looked_by, looked, DifferUnlooked}
+use Rattle.unlooked.specs.Packs.{Hidden, record_of, zero_bytes, everywhere, unlooked, hides, looked_by, looked, DifferUnlooked}
 
--- no line speaks of byte j of table t; nor of its k bytes from o on, which lie in the record
-abbrev pub kept : List Line → ℕ → ℕ → Bool
+-- nothing is hidden of byte j of table t; nor of its k bytes from o on, which lie in the record
+abbrev pub kept : List Hidden → ℕ → ℕ → Bool
 kept [] t j = true
 kept (u ∷ us) t j = not (hides u t j) && kept us t j
 
-abbrev pub kept_from : List Line → ℕ → ℕ → ℕ → Bool
+abbrev pub kept_from : List Hidden → ℕ → ℕ → ℕ → Bool
 kept_from us t o zero = true
 kept_from us t o (suc k) = kept_from us t o k && (ltb (o + k) 64 && kept us t (o + k))
 
 -- such a byte is looked at as it is
-kept_looked : (us : List Line) (r : ℕ → ℕ) (j : ℕ) → kept us (r 0) j ≡ true → looked_by us r j ≡ r j
+kept_looked : (us : List Hidden) (r : ℕ → ℕ) (j : ℕ) → kept us (r 0) j ≡ true → looked_by us r j ≡ r j
 kept_looked [] r j h = refl
 kept_looked (u ∷ us) r j h = go (hides u (r 0) j) (kept_looked us r j) h
   where
@@ -54,8 +54,8 @@ bytes_zero p n o (suc k) h =
 pub number_zero : (p : List ℕ) (n o k : ℕ) → o + k ≤ 64 → zero_bytes (record_of p n) o k ≡ eqb (number k p (n * 64 + o)) 0
 number_zero p n o k h = bytes_zero p n o k h ∙ zeros_number p (n * 64 + o) k
 
--- the fields of a record of table t that no line hides, 0 for the others
-abbrev pub seen : List Line → ℕ → Layout → (ℕ → ℕ) → ℕ → ℕ
+-- the fields of a record of table t of which nothing is hidden, 0 for the others
+abbrev pub seen : List Hidden → ℕ → Layout → (ℕ → ℕ) → ℕ → ℕ
 seen us t l f k = cond (kept_from us t (offset l k) (bytes (field_at l k))) (f k) 0
 
 module _ (kind : PackKind) (p q : List ℕ) (d : DifferUnlooked kind p q) where
@@ -92,13 +92,13 @@ module _ (kind : PackKind) (p q : List ℕ) (d : DifferUnlooked kind p q) where
         (λ h. rw h (number_same (bytes (field_at l k)) (offset l k) h))
         (λ h. rw h refl))
 
-    -- what is made of the fields that no line hides
+    -- what is made of the fields of which nothing is hidden
     pub made_same :
         {A : Type 0} (of : (ℕ → ℕ) → A) (l : Layout) → ((f : ℕ → ℕ) → of (seen (unlooked kind) t l f) ≡ of f)
         → of (field q n l) ≡ of (field p n l)
     made_same of l only = sym (only (field q n l)) ∙ ap of (fields_same l) ∙ only (field p n l)
 
--- what lines let differ, stations do
+-- two packs that may differ so as lines may differ so as stations
 pub line_differs : (p q : List ℕ) → DifferUnlooked Federate p q → DifferUnlooked Enclave p q
 line_differs p q d = (d.0, λ n j l. go n j l)
   where

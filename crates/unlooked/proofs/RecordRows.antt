@@ -68,7 +68,7 @@ action_head f a b j k g h = rw (standard_is j (bit_of a 1) (f 3), standard_is k 
 reaction_head : (f : ℕ → ℕ) (a b j k : ℕ) → a / 2 ≡ b / 2 → reaction_part (reaction_of f a j) ≡ reaction_part (reaction_of f b k)
 reaction_head f a b j k h = rw (next_bit a b h, target_is (bit_of b 1) (transition_of j) (transition_of k) (record { 0 = f 12 })) refl
 
--- what is made of a row's fields and of its bytes 1 and 2: no more of the fields than of those that no line hides
+-- what is made of a row's fields and of its bytes 1 and 2: no more of the fields than of those of which nothing is hidden
 abbrev pub Seen : {A : Type 0} → PackKind → ((ℕ → ℕ) → ℕ → ℕ → A) → ℕ → Layout → Type 0
 Seen kind of t l = (f : ℕ → ℕ) (b k : ℕ) → of (seen (unlooked kind) t l f) b k ≡ of f b k
 

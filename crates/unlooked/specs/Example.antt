@@ -1,5 +1,5 @@
--- Packs that differ in every byte of every line of the list, as far as the packing rules allow, for a station and for a line: the list is no
--- shorter. Assumes nothing.
+-- Packs that differ in every byte that the list hides, as far as the packing rules allow, for a station and for a line: the list is no shorter.
+-- Assumes nothing.
 use Rattle.std.specs.Prelude.{ℕ, ◌+◌, ◌*◌, List, [], ◌∷◌, ◌++◌, take}
 use lib.ListN.{replicate}
 use Rattle.packing.specs.declared.PackKind.{PackKind}

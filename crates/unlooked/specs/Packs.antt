@@ -14,17 +14,17 @@ abbrev pub record_of : List ℕ → ℕ → ℕ → ℕ
 record_of p n j = cond (ltb j 64) (byte_of p n j) 0
 
 -- of the records of a table the bytes from `from` up to `to`, and what is looked at of byte j of such a record
-pub record Line : Type 0 where
+pub record Hidden : Type 0 where
   pub table : ℕ
   pub from : ℕ
   pub to : ℕ
   pub left : (ℕ → ℕ) → ℕ → ℕ
 
 -- byte j of table t, and field k of table t, whose layout is l
-abbrev pub byte : ℕ → ℕ → ((ℕ → ℕ) → ℕ → ℕ) → Line
+abbrev pub byte : ℕ → ℕ → ((ℕ → ℕ) → ℕ → ℕ) → Hidden
 byte t j left = record { table = t; from = j; to = j + 1; left = left }
 
-abbrev pub field : ℕ → Layout → ℕ → ((ℕ → ℕ) → ℕ → ℕ) → Line
+abbrev pub field : ℕ → Layout → ℕ → ((ℕ → ℕ) → ℕ → ℕ) → Hidden
 field t l k left = record { table = t; from = offset l k; to = offset l k + bytes (field_at l k); left = left }
 
 -- what is left of a byte: nothing, its lowest bit, all but its lowest bit; of a kind, 0 and 1 as one
@@ -49,7 +49,7 @@ abbrev pub zero_or_not : (ℕ → ℕ) → ℕ → ℕ
 zero_or_not r j = cond (zero_bytes r (offset layout.deadlines 1) 8) 1 0
 
 -- the list for stations and lines; the packing rules give a period's bit to timers only, and a shutdown's delay no value but 0
-abbrev pub everywhere : List Line
+abbrev pub everywhere : List Hidden
 everywhere =
     -- the storage numbers other than the slot bounds: event capacity, payload bytes, state bytes, scratch bytes
     field 1 layout.enclave 4 nothing
@@ -75,7 +75,7 @@ everywhere =
     ∷ []
 
 -- for stations only
-abbrev pub of_routes : List Line
+abbrev pub of_routes : List Hidden
 of_routes =
     -- a route's domain
     byte 23 2 lowest_bit
@@ -83,16 +83,16 @@ of_routes =
     ∷ field 23 layout.routes 3 nothing
     ∷ []
 
-abbrev pub unlooked : PackKind → List Line
+abbrev pub unlooked : PackKind → List Hidden
 unlooked Enclave = everywhere ++ of_routes
 unlooked Federate = everywhere
 
--- the line speaks of byte j of a record of table t
-abbrev pub hides : Line → ℕ → ℕ → Bool
+-- u hides something of byte j of a record of table t
+abbrev pub hides : Hidden → ℕ → ℕ → Bool
 hides u t j = eqb u.table t && (leb u.from j && ltb j u.to)
 
--- byte j of the record r as the check looks at it, by the lines that hide something
-abbrev pub looked_by : List Line → (ℕ → ℕ) → ℕ → ℕ
+-- byte j of the record r as the check looks at it, by what is hidden
+abbrev pub looked_by : List Hidden → (ℕ → ℕ) → ℕ → ℕ
 looked_by [] r j = r j
 looked_by (u ∷ us) r j = cond (hides u (r 0) j) (u.left r j) (looked_by us r j)
 
