@@ -9,7 +9,7 @@ use lib.Dec.{ltb, leb}
 use lib.ListN.{length}
 use borrow.Author.Tests.{leb-true, eqb-true, eq-eqb, ne_eqb}
 use Rattle.identity.proofs.Tests.{cases, both}
-use Rattle.schema.specs.Layout.{layouts}
+use Rattle.schema.specs.Tables.{tables}
 use Rattle.schema.specs.Bytes.{byte_of}
 use Rattle.schema.specs.Records.{records_of, is_of}
 use Rattle.schema.proofs.Counts.{records_inside, records_few}
@@ -69,7 +69,7 @@ module _ (p batch house : List ℕ) (h : Packed Federate p batch house) (n : ℕ
       let g = rw (ne_eqb (byte_of p (suc (n + k)) 0) 1 o) at f in
       let v = (both (leb 1 (byte_of p (n + k) 0)) _ g).1 in
       let t = both (leb 2 (byte_of p (suc (n + k)) 0)) _ v in
-      let c = leb-true (byte_of p (n + k) 0) (byte_of p (suc (n + k)) 0) (both (ltb (byte_of p (suc (n + k)) 0) (length layouts)) _ t.1).1 in
+      let c = leb-true (byte_of p (n + k) 0) (byte_of p (suc (n + k)) 0) (both (ltb (byte_of p (suc (n + k)) 0) tables) _ t.1).1 in
       (rw (z, x) (leb-true 2 (byte_of p (suc (n + k)) 0) t.0), rw (y, z, x) c)
 
   pub part_rises : RowsRise (own p n)
