@@ -81,7 +81,8 @@ function refused(n) {
   if (n <= 18) return of_rows(n)
   if (n <= 21) return of_identities(n)
   if (n <= 25) return of_reactors_and_bindings(n)
-  return n <= 28 ? of_routes(n) : of_deadlines(n)
+  if (n <= 28) return of_routes(n)
+  return n <= 39 ? of_deadlines(n) : of_tallies(n)
 }
 
 function of_packing(n, record) {
@@ -137,5 +138,14 @@ function of_routes(n) {
 
 function of_deadlines(n) {
   if (n == 39 && has(1)) return "The deadline in row " $3 " of deadlines is zero; it must be at least one nanosecond."
+  return ""
+}
+
+function of_tallies(n) {
+  if (!has(0)) return ""
+  if (n == 40) return "The tally is full: it holds 1,000,000 answers."
+  if (n == 44) return "The sum of the links would be above 18446744073709551615, the largest number of 64 bits."
+  if (n == 45) return "There is nothing to divide by: no answer was added, or none of them is accepted."
+  if (n == 46) return "No sequence of answers gives this tally."
   return ""
 }

@@ -8,7 +8,7 @@ use lib.Dec.{eqb}
 use lib.ListN.{length, get_or}
 use borrow.Author.Tests.{eqb-false}
 use Rattle.answers.specs.declared.Refusal.{Refusal}
-use Rattle.answers.specs.declared.Refusal.TheVariants.{Length, TextTooLong, TableOutOfPlace, StrayByte, IdentityOutside, NotUtf8, ReferenceOutOfBounds, RangeOutOfBounds, RangesNotMonotonic, EntriesNotSorted, DuplicateEntry, OwnershipMismatch, ScopeParentCycle, InvalidStableId, StableIdsNotSorted, DuplicateStableId, InvalidBankInfo, StorageBoundExceeded, BindingKindMismatch, BindingPresenceMismatch, DuplicateRouteHalf, RoutePairMismatch, ZeroDeadline}
+use Rattle.answers.specs.declared.Refusal.TheVariants.{Length, TextTooLong, TableOutOfPlace, StrayByte, IdentityOutside, NotUtf8, ReferenceOutOfBounds, RangeOutOfBounds, RangesNotMonotonic, EntriesNotSorted, DuplicateEntry, OwnershipMismatch, ScopeParentCycle, InvalidStableId, StableIdsNotSorted, DuplicateStableId, InvalidBankInfo, StorageBoundExceeded, BindingKindMismatch, BindingPresenceMismatch, DuplicateRouteHalf, RoutePairMismatch, ZeroDeadline, TallyFull, LinkSumTooLarge, NothingToDivide, NoSuchTally}
 use Rattle.answers.specs.Numbers.{numbers}
 
 abbrev Shaped : List ℕ → Type 0
@@ -39,6 +39,10 @@ shaped (BindingPresenceMismatch at) = (omega arith, omega arith, refl)
 shaped (DuplicateRouteHalf boundary direction) = (omega arith, omega arith, refl)
 shaped (RoutePairMismatch boundary field) = (omega arith, omega arith, refl)
 shaped (ZeroDeadline index) = (omega arith, omega arith, refl)
+shaped TallyFull = (omega arith, omega arith, refl)
+shaped LinkSumTooLarge = (omega arith, omega arith, refl)
+shaped NothingToDivide = (omega arith, omega arith, refl)
+shaped NoSuchTally = (omega arith, omega arith, refl)
 
 pub number-positive : (r : Refusal) → 1 ≤ get_or (numbers r) 0 0
 number-positive r = (shaped r).0

@@ -17,7 +17,7 @@ use std::error::Error;
 use std::fmt;
 
 // One variant for each refusal of document 01 that a pack can have (all but 11), named as the Rust names it, with its values one by one as the Rust has
-// them, and then those of document 02, in their order; 1 to 6 are the packing rules'.
+// them, and then those of document 02, in their order; 1 to 6 are the packing rules', 40 and 44 to 46 a tally's.
 // Which text is too long is shown by the bit that tells an identity's text, 0 for the batch and 1 for the house.
 #[derive(Clone, Copy, Debug)]
 pub enum Refusal {
@@ -105,6 +105,10 @@ pub enum Refusal {
     ZeroDeadline {
         index: u32,
     },
+    TallyFull,
+    LinkSumTooLarge,
+    NothingToDivide,
+    NoSuchTally,
 }
 
 // A refusal's number and the values after it.
@@ -218,6 +222,10 @@ impl Refusal {
                 with_boundary(28, boundary, u8::from(field))
             }
             Refusal::ZeroDeadline { index } => listed(&[39, u64::from(index)]),
+            Refusal::TallyFull => listed(&[40]),
+            Refusal::LinkSumTooLarge => listed(&[44]),
+            Refusal::NothingToDivide => listed(&[45]),
+            Refusal::NoSuchTally => listed(&[46]),
         }
     }
 }

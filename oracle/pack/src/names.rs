@@ -75,7 +75,7 @@ const fn refusal(number: u64, name: &'static str, values: &'static [Value]) -> R
 
 const IDENTITY: &[Value] = &[Kind, INDEX, BIT, START, LENGTH];
 
-pub const REFUSALS: [Refusal; 23] = [
+pub const REFUSALS: [Refusal; 27] = [
     refusal(1, "length of the pack", &[]),
     refusal(2, "text too long", &[Plain("text")]),
     refusal(3, "table number unknown or out of place", &[RECORD]),
@@ -99,6 +99,10 @@ pub const REFUSALS: [Refusal; 23] = [
     refusal(27, "DuplicateRouteHalf", &[BIT, START, LENGTH, Direction]),
     refusal(28, "RoutePairMismatch", &[BIT, START, LENGTH, Field]),
     refusal(39, "ZeroDeadline", &[INDEX]),
+    refusal(40, "TallyFull", &[]),
+    refusal(44, "LinkSumTooLarge", &[]),
+    refusal(45, "NothingToDivide", &[]),
+    refusal(46, "NoSuchTally", &[]),
 ];
 
 /// The refusal with this number.
