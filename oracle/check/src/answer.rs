@@ -1,4 +1,5 @@
 //! One answer and its line.
+use crate::tally::Tallied;
 use std::fmt;
 
 #[derive(Clone, Debug, PartialEq, Eq)]
@@ -9,6 +10,8 @@ pub enum Answer {
     Refused(Vec<u64>),
     /// The reactor that the mode asked belongs to.
     Owner(u64),
+    /// What each step of a tally gave.
+    Tally(Tallied),
 }
 
 impl fmt::Display for Answer {
@@ -23,6 +26,7 @@ impl fmt::Display for Answer {
                 numbers.iter().try_for_each(|number| write!(to, " {number}"))
             }
             Answer::Owner(reactor) => write!(to, "owner {reactor}"),
+            Answer::Tally(tallied) => tallied.fmt(to),
         }
     }
 }

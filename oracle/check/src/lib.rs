@@ -1,4 +1,4 @@
-//! A case through the packing rules, boomerang's check and that of the deadlines, as one answer.
+//! A case through the packing rules, boomerang's check and that of the deadlines, as one answer; or a tally.
 mod answer;
 mod deadlines;
 mod enclave;
@@ -7,6 +7,7 @@ mod links;
 mod numbers;
 pub mod owner;
 mod places;
+pub mod tally;
 pub mod worth;
 
 pub use answer::Answer;
@@ -20,13 +21,16 @@ use boomerang_runtime::image::{
 };
 use enclave::Enclave;
 use identities::Identities;
-use pack::corpus::{Case, Kind};
+use pack::corpus::{Case, Kind, TALLY};
 use pack::layout::{ENCLAVE, FEDERATE};
 use pack::packing;
 use pack::row::Row;
 
 /// The answer for one case.
 pub fn answer(case: &Case) -> Answer {
+    if case.kind == TALLY {
+        return Answer::Tally(tally::of(&case.rest));
+    }
     let kind = case.kind().expect("a kind that a corpus has");
     let answer = match packing::check(case, kind) {
         Err(fault) => Answer::Refused(std::iter::once(fault.refusal).chain(fault.number).collect()),

@@ -8,6 +8,7 @@ mod identities;
 mod line;
 mod plan;
 mod styles;
+mod tally;
 mod texts;
 mod tiny;
 
@@ -29,7 +30,7 @@ fn main() -> ExitCode {
     let Some(run) = arguments(std::env::args().skip(1).collect()) else {
         let styles: Vec<&str> = STYLES.iter().map(|style| style.name).collect();
         eprintln!("gen SEED COUNT OUT [--from N] [--only MIX]");
-        eprintln!("MIX: all, station, line, packing, deadlines, large, deep, owner, {}", styles.join(", "));
+        eprintln!("MIX: all, station, line, packing, deadlines, large, deep, owner, tally, {}", styles.join(", "));
         return ExitCode::from(2);
     };
     match write(&run) {

@@ -41,8 +41,11 @@ fn different(number: u64, ours: &str, theirs: &str) -> Done {
     Ok(false)
 }
 
-/// `accepted`, or `refused` with its number.
+/// `accepted`, or `refused` with its number; of a tally, which refusals it met.
 fn group(line: &str) -> String {
+    if line.contains('|') {
+        return tally(line);
+    }
     let mut words = line.split(' ');
     match (words.next(), words.next()) {
         (Some("refused"), Some(number)) => format!("refused {number}"),
@@ -50,5 +53,15 @@ fn group(line: &str) -> String {
         (Some("accepted"), _) => "accepted (station)".into(),
         (Some("owner"), _) => "owner of a mode".into(),
         _ => line.into(),
+    }
+}
+
+fn tally(line: &str) -> String {
+    let met = |number: &&u64| line.split([';', '|']).any(|step| step.trim() == format!("refused {number}"));
+    let numbers: Vec<String> = [40, 44, 45, 46].iter().filter(met).map(u64::to_string).collect();
+    if numbers.is_empty() {
+        "tally".into()
+    } else {
+        format!("tally with {}", numbers.join(", "))
     }
 }

@@ -31,6 +31,7 @@ fn without_site(case: &Case, answer: &Answer) -> String {
     match answer {
         Answer::Accepted { .. } => format!("accepted {}", case.kind),
         Answer::Owner(_) => "owner".into(),
+        Answer::Tally(_) => "tally".into(),
         Answer::Refused(_) => "no such mode".into(),
     }
 }

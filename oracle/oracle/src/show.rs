@@ -1,7 +1,7 @@
 //! A case record by record in words, with its answer.
 use crate::{one, sites, Done};
 use check::{answer, Answer};
-use pack::corpus::{Case, Kind};
+use pack::corpus::{Case, Kind, TALLY, TALLY_HEAD};
 use pack::layout::{numbers, Shape, ACTIONS, BINDINGS, REACTIONS, ROUTES, TABLES};
 use pack::names::{direction_name, field_name, kind_name, refusal_of, table_name, Value};
 use pack::row::Row;
@@ -13,6 +13,10 @@ const MOST: usize = 400;
 
 pub fn print(corpus: &str, number: &str) -> Done {
     let case = one(corpus, number)?;
+    if case.kind == TALLY {
+        tally(number, &case);
+        return Ok(true);
+    }
     let kind = match case.kind() {
         Some(Kind::Federate) => "line (federate)",
         _ => "station (enclave)",
@@ -31,6 +35,25 @@ pub fn print(corpus: &str, number: &str) -> Done {
         println!("  site: {site}");
     }
     Ok(true)
+}
+
+/// A tally by its numbers, its steps and what each of them gave.
+fn tally(number: &str, case: &Case) {
+    let (head, steps) = case.rest.split_at(TALLY_HEAD as usize);
+    let number_at = |bytes: &[u8]| bytes[..8].iter().fold(0_u64, |n, byte| n << 8 | u64::from(*byte));
+    let [answers, accepted, links] = [0, 8, 16].map(|at| number_at(&head[at..]));
+    println!("case {number}: a tally of {answers} answers, {accepted} accepted, {links} links");
+    let mut left = steps;
+    while let [step, after @ ..] = left {
+        left = if *step == 1 { &after[8..] } else { after };
+        match step {
+            0 => println!("  a refused answer comes in"),
+            1 => println!("  an accepted one with {} links", number_at(after)),
+            2 => println!("  the share is asked"),
+            _ => println!("  the mean is asked"),
+        }
+    }
+    println!("answer: {}", answer(case));
 }
 
 fn records(case: &Case) {

@@ -61,6 +61,7 @@ fn group(answer: &Answer, kind: u8) -> String {
         Answer::Accepted { .. } => format!("accepted, {kind}"),
         Answer::Refused(numbers) => format!("refused {:02} {}", numbers[0], refusal_of(numbers[0]).name),
         Answer::Owner(_) => "owner of a mode".into(),
+        Answer::Tally(_) => "tally".into(),
     }
 }
 

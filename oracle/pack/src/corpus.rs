@@ -8,16 +8,30 @@ pub enum Kind {
     Federate,
 }
 
-/// The kinds of question: the check of a station, that of a line, and the owner of a mode.
+/// The kinds of question: the check of a station, that of a line, the owner of a mode, and a tally.
 pub const STATION: u8 = 0;
 pub const LINE: u8 = 1;
 pub const OWNER: u8 = 6;
+pub const TALLY: u8 = 12;
 
-/// How many bytes follow a question's parts; none for a kind that is not known.
+/// The bytes of a tally's three numbers and of how many steps it has.
+pub const TALLY_HEAD: u64 = 28;
+
+/// How many bytes follow a question's parts, before the steps of a tally; none for a kind that is not known.
 fn rest_length(kind: u8) -> Option<u64> {
     match kind {
         STATION | LINE => Some(0),
         OWNER => Some(4),
+        TALLY => Some(TALLY_HEAD),
+        _ => None,
+    }
+}
+
+/// How many bytes a step of a tally has after its first; none for a step that is not known.
+pub fn step_length(step: u8) -> Option<u64> {
+    match step {
+        0 | 2 | 3 => Some(0),
+        1 => Some(8),
         _ => None,
     }
 }
@@ -71,6 +85,11 @@ impl Case {
     }
 }
 
+/// A number of four bytes, high byte first.
+fn number(bytes: &[u8]) -> u32 {
+    u32::from_be_bytes([bytes[0], bytes[1], bytes[2], bytes[3]])
+}
+
 /// What stands next in a corpus.
 pub enum Next {
     Case(Case),
@@ -90,7 +109,7 @@ impl<R: Read> Corpus<R> {
         if head.len() < 13 {
             return Ok(Next::CutOff);
         }
-        let length = |at: usize| u32::from_be_bytes([head[at], head[at + 1], head[at + 2], head[at + 3]]);
+        let length = |at: usize| number(&head[at..]);
         let mut parts = [vec![], vec![], vec![]];
         for (part, at) in parts.iter_mut().zip([1, 5, 9]) {
             *part = self.take(length(at).into())?;
@@ -106,7 +125,30 @@ impl<R: Read> Corpus<R> {
         if (rest.len() as u64) < length {
             return Ok(Next::CutOff);
         }
-        Ok(Next::Case(Case { kind: head[0], pack, batch, house, rest }))
+        let mut case = Case { kind: head[0], pack, batch, house, rest };
+        let steps = if case.kind == TALLY { number(&case.rest[24..]) } else { 0 };
+        for _ in 0..steps {
+            match self.step(&mut case.rest)? {
+                None => {}
+                Some(end) => return Ok(end),
+            }
+        }
+        Ok(Next::Case(case))
+    }
+
+    /// Adds a tally's next step; or how the corpus ends there.
+    fn step(&mut self, steps: &mut Vec<u8>) -> io::Result<Option<Next>> {
+        let kind = self.take(1)?;
+        let Some(&first) = kind.first() else {
+            return Ok(Some(Next::CutOff));
+        };
+        let Some(length) = step_length(first) else {
+            return Ok(Some(Next::UnknownKind));
+        };
+        let links = self.take(length)?;
+        let whole = links.len() as u64 == length;
+        steps.extend([kind, links].concat());
+        Ok((!whole).then_some(Next::CutOff))
     }
 
     /// Up to `length` bytes; fewer only at the end of input.
