@@ -1,4 +1,5 @@
 // Reading a corpus, case by case. Its numbers go high byte first.
+use crate::steps::{TallyCase, read_tally};
 use std::io;
 use std::io::{BufRead, ErrorKind, Read};
 
@@ -19,7 +20,17 @@ pub struct Case<'a> {
     pub house: &'a [u8],
 }
 
-// Why a case is not read: it is cut off, its first byte is no kind of question, or its reading failed.
+// What a case asks: of an image, or of a tally.
+#[derive(Clone, Copy)]
+pub enum Asked<'a> {
+    Image(Case<'a>),
+    Tally(TallyCase<'a>),
+}
+
+// The kind of question that is of a tally.
+const TALLY: u8 = 12;
+
+// Why a case is not read: it is cut off, its first byte is no kind of question or one of its steps is none, or its reading failed.
 #[derive(Debug, Drop)]
 pub enum ReadError {
     CutOff,
@@ -36,14 +47,20 @@ impl From<io::Error> for ReadError {
     }
 }
 
-fn read_u32<R: Read>(input: &mut R) -> Result<u32, ReadError> {
+pub fn read_u64<R: Read>(input: &mut R) -> Result<u64, ReadError> {
+    let mut bytes = [0u8; 8];
+    input.read_exact(&mut bytes)?;
+    Ok(u64::from_be_bytes(bytes))
+}
+
+pub fn read_u32<R: Read>(input: &mut R) -> Result<u32, ReadError> {
     let mut bytes = [0u8; 4];
     input.read_exact(&mut bytes)?;
     Ok(u32::from_be_bytes(bytes))
 }
 
 // Takes bytes that are not kept.
-fn pass_over<R: Read>(input: &mut R, len: usize) -> Result<(), ReadError> {
+pub fn pass_over<R: Read>(input: &mut R, len: usize) -> Result<(), ReadError> {
     let passed = io::copy(&mut input.by_ref().take(len as u64), &mut io::sink())?;
     if passed < len as u64 {
         return Err(ReadError::CutOff);
@@ -106,12 +123,16 @@ fn read_parts<'a, R: Read>(
 pub fn read_case<'a, R: BufRead>(
     input: &mut R,
     room: &'a mut Room,
-) -> Result<Option<Case<'a>>, ReadError> {
+) -> Result<Option<Asked<'a>>, ReadError> {
     if input.fill_buf().map_err(ReadError::Failed)?.is_empty() {
         return Ok(None);
     }
     let mut kind = [0u8; 1];
     input.read_exact(&mut kind).map_err(ReadError::Failed)?;
+    if kind[0] == TALLY {
+        let case = read_tally(input, room.pack)?;
+        return Ok(Some(Asked::Tally(case)));
+    }
     let case = read_parts(kind[0], input, room)?;
-    Ok(Some(case))
+    Ok(Some(Asked::Image(case)))
 }

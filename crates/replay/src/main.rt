@@ -4,6 +4,7 @@
 mod answer;
 mod corpus;
 mod input;
+mod steps;
 
 ghost use Rattle.std.specs.Prelude.{◌≤◌};
 
