@@ -17,9 +17,9 @@ extern "C" {
  *
  * The result says how many of `numbers` hold the answer, from 1 to 7 (7 for refusals 12 and 13); the others of the eight are set to 0.
  *   numbers[0] is 0: accepted. Then follow, for an enclave, the links (result 2); for a federate, the stations and the links (result 3).
- *   numbers[0] is not 0: refused. It is the refusal's number, from 1 to 39, and the numbers that it carries follow. docs/REFUSALS.md lists
+ *   numbers[0] is not 0: refused. It is the refusal's number, from 1 to 46, and the numbers that it carries follow. docs/REFUSALS.md lists
  *   them. Tables are numbered 0 to 25, as in the pack (25 are the deadlines, which may be left out); in 13 also 255, the numbers of stations.
- * The program `replay` prints these numbers: `accepted` (`owner` for the last call below) and those after the 0, or `refused` and all of them.
+ * The program `replay` prints these numbers: `accepted` (`owner` for a mode's owner) and those after the 0, or `refused` and all of them.
  *
  * Proved (crates/image_check, exported by crates/image_check_c): for any three strings of bytes, whatever their lengths and contents, the
  * call ends, these are the numbers and this the result, it reads no byte outside the three strings and writes nothing but the eight
@@ -50,6 +50,33 @@ uint32_t check_federate_image(const uint8_t *pack, size_t pack_len, const uint8_
  * it; or, for an accepted station without such a mode, 12, 6, 0, 20, 6, the mode and how many modes there are (result 7). */
 uint32_t mode_owner_of_image(const uint8_t *pack, size_t pack_len, const uint8_t *batch, size_t batch_len,
                              const uint8_t *house, size_t house_len, uint32_t mode, uint64_t *numbers);
+
+/* A running tally of line answers: how many were added, at most 1,000,000; how many of these are accepted; and the sum of their links. All zeros
+ * is the tally of no answers. */
+struct line_tally {
+    uint64_t answers;
+    uint64_t accepted;
+    uint64_t links;
+};
+
+/* Adds an accepted answer with any number of links, or a refused one; the share of answers that are accepted; the mean links of an accepted one.
+ *
+ * The result says how many of `numbers` hold the answer, 1 or 3; the others of the eight are set to 0.
+ *   numbers[0] is 0: the answer was added (result 1); or the fraction follows, its numerator and its denominator in lowest terms (result 3).
+ *   numbers[0] is not 0: refused, and the tally is as it was (result 1). 46, before all others: no sequence of answers gives this tally.
+ *   Adding: 40 the tally is full, before 44 the sum of links would pass 64 bits. Asking: 45 there is nothing to divide by.
+ *
+ * Proved, for any three numbers in the tally: the call ends, these are the numbers and this the result, and it writes nothing but the eight
+ * numbers and, in the first two calls, the tally, which a refusal leaves with what it held. What is said above of calls, numbers and the stack
+ * holds here too. Assumed of the host: tally points to a struct that is set, aligned as a uint64_t is; it is not NULL, does not overlap
+ * numbers, and nothing else reads or writes it before the call returns (in the last two calls others may read it). */
+uint32_t add_accepted_to_tally(struct line_tally *tally, uint64_t links, uint64_t *numbers);
+
+uint32_t add_refused_to_tally(struct line_tally *tally, uint64_t *numbers);
+
+uint32_t share_of_tally(const struct line_tally *tally, uint64_t *numbers);
+
+uint32_t mean_of_tally(const struct line_tally *tally, uint64_t *numbers);
 
 #ifdef __cplusplus
 }

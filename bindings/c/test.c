@@ -71,6 +71,102 @@ static uint32_t asked(uint8_t kind, int *whole)
     return (uint32_t)length_at(bytes);
 }
 
+/* A number of eight bytes of the input, high byte first. */
+static uint64_t next_number(int *whole)
+{
+    uint8_t bytes[8] = {0};
+    if (fread(bytes, 1, sizeof bytes, stdin) != sizeof bytes)
+        *whole = 0;
+    return (uint64_t)length_at(bytes) << 32 | length_at(bytes + 4);
+}
+
+/* A step of a tally: its kind, and the links of an accepted answer. */
+struct step {
+    uint8_t kind;
+    uint64_t links;
+};
+
+/* Takes the next step; *known becomes 0 where there is none of its kind. */
+static struct step next_step(int *whole, int *known)
+{
+    struct step step = {0, 0};
+    if (fread(&step.kind, 1, 1, stdin) != 1)
+        *whole = 0;
+    else if (step.kind > 3)
+        *known = 0;
+    else if (step.kind == 1)
+        step.links = next_number(whole);
+    return step;
+}
+
+/* What a step gives, as words of the line. A refusal has one number, a fraction two. */
+static void print_step(struct line_tally *tally, struct step step, uint64_t *numbers)
+{
+    uint32_t count;
+    memset(numbers, 0xA5, 8 * sizeof *numbers);
+    if (step.kind == 0)
+        count = add_refused_to_tally(tally, numbers);
+    else if (step.kind == 1)
+        count = add_accepted_to_tally(tally, step.links, numbers);
+    else if (step.kind == 2)
+        count = share_of_tally(tally, numbers);
+    else
+        count = mean_of_tally(tally, numbers);
+    if (count != (numbers[0] != 0 || step.kind < 2 ? 1 : 3))
+        die("the result is not that of a tally's answer");
+    for (uint32_t i = count; i < 8; i++)
+        if (numbers[i] != 0)
+            die("a number after the answer is not 0");
+    if (numbers[0] != 0)
+        printf("refused %" PRIu64, numbers[0]);
+    else if (count == 1)
+        fputs("added", stdout);
+    else
+        printf("%" PRIu64 "/%" PRIu64, numbers[1], numbers[2]);
+}
+
+/* The line of a tally whose steps were all read. */
+static void print_tally(struct line_tally *tally, const struct step *steps, size_t count)
+{
+    uint64_t *numbers = exactly(8 * sizeof *numbers);
+    for (size_t i = 0; i < count; i++) {
+        print_step(tally, steps[i], numbers);
+        fputs(i + 1 < count ? " ; " : " ", stdout);
+    }
+    printf("| %" PRIu64 " %" PRIu64 " %" PRIu64 "\n", tally->answers, tally->accepted, tally->links);
+    free(numbers);
+}
+
+/* Answers a tally, once all of its steps are read; 0 where the run ends with it. The steps are read into memory that grows with them. */
+static int answer_tally(int whole)
+{
+    int known = 1;
+    struct line_tally *tally = exactly(sizeof *tally);
+    struct step *steps = NULL;
+    uint8_t bytes[4] = {0};
+    size_t count, got = 0, room = 0;
+    tally->answers = next_number(&whole);
+    tally->accepted = next_number(&whole);
+    tally->links = next_number(&whole);
+    if (fread(bytes, 1, sizeof bytes, stdin) != sizeof bytes)
+        whole = 0;
+    count = length_at(bytes);
+    for (; whole && known && got < count; got++) {
+        if (got == room && (steps = realloc(steps, (room = 2 * room + 16) * sizeof *steps)) == NULL)
+            die("no memory");
+        steps[got] = next_step(&whole, &known);
+    }
+    if (!whole)
+        puts("cut off");
+    else if (!known)
+        puts("unknown kind");
+    else
+        print_tally(tally, steps, count);
+    free(steps);
+    free(tally);
+    return whole && known;
+}
+
 /* Answers one case whose first 13 bytes are `head`; 0 where the run ends with it. */
 static int answer_case(const uint8_t *head, int null_if_empty)
 {
@@ -80,7 +176,14 @@ static int answer_case(const uint8_t *head, int null_if_empty)
     uint8_t *batch = part(b, null_if_empty, &whole);
     uint8_t *house = part(h, null_if_empty, &whole);
     uint32_t mode = asked(head[0], &whole);
-    uint64_t *numbers = exactly(8 * sizeof *numbers);
+    uint64_t *numbers;
+    if (head[0] == 12) {
+        free(pack);
+        free(batch);
+        free(house);
+        return answer_tally(whole);
+    }
+    numbers = exactly(8 * sizeof *numbers);
     memset(numbers, 0xA5, 8 * sizeof *numbers);
     if (!whole)
         puts("cut off");

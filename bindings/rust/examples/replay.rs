@@ -1,5 +1,5 @@
 //! Answers a corpus on standard input as the program `replay` does (oracle/README.md has the format).
-use image_check::{check_enclave, check_federate, mode_owner};
+use image_check::{check_enclave, check_federate, mode_owner, Fraction, Refusal, Tally};
 use std::io::{self, Read, Write};
 
 /// The line of a case of no known kind, which ends the run.
@@ -22,6 +22,38 @@ fn length(rest: &mut &[u8]) -> Option<usize> {
     number(rest).map(|n| n as usize)
 }
 
+fn long(rest: &mut &[u8]) -> Option<u64> {
+    let (bytes, after) = rest.split_first_chunk()?;
+    *rest = after;
+    Some(u64::from_be_bytes(*bytes))
+}
+
+fn added(answer: Result<(), Refusal>) -> String {
+    answer.map_or_else(|refusal| refusal.to_string(), |()| "added".to_string())
+}
+
+fn fraction(answer: Result<Fraction, Refusal>) -> String {
+    answer.map_or_else(|refusal| refusal.to_string(), |fraction| fraction.to_string())
+}
+
+/// The line of a tally, or nothing where the input ends inside it.
+fn tally(rest: &mut &[u8]) -> Option<String> {
+    let mut tally = Tally { answers: long(rest)?, accepted: long(rest)?, links: long(rest)? };
+    let mut steps = Vec::new();
+    for _ in 0..number(rest)? {
+        steps.push(match take(rest, 1)?[0] {
+            0 => added(tally.add_refused()),
+            1 => added(tally.add_accepted(long(rest)?)),
+            2 => fraction(tally.share()),
+            3 => fraction(tally.mean()),
+            _ => return Some(UNKNOWN_KIND.to_string()),
+        });
+    }
+    let blank = if steps.is_empty() { "" } else { " " };
+    let Tally { answers, accepted, links } = tally;
+    Some(format!("{}{blank}| {answers} {accepted} {links}", steps.join(" ; ")))
+}
+
 /// The line of the next case, or nothing where the input ends inside it.
 fn next(rest: &mut &[u8]) -> Option<String> {
     let kind = take(rest, 1)?[0];
@@ -33,6 +65,7 @@ fn next(rest: &mut &[u8]) -> Option<String> {
         0 => check_enclave(&pack, &batch, &house).to_string(),
         1 => check_federate(&pack, &batch, &house).to_string(),
         6 => mode_owner(&pack, &batch, &house, number(rest)?).to_string(),
+        12 => tally(rest)?,
         _ => UNKNOWN_KIND.to_string(),
     })
 }

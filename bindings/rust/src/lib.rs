@@ -1,6 +1,6 @@
 //! The check of packed images: one station (an enclave) or a whole line (a federate), over a pack, its batch text and its house text.
 //!
-//! Any three byte slices get an answer. The code behind it is proved (`crates/image_check`); what its boundary assumes is said in
+//! Any three byte slices get an answer. A [`Tally`] counts answers of lines. The code behind it is proved (`crates/image_check`); what its boundary assumes is said in
 //! `bindings/c/image_check.h`, and a slice of Rust's brings all of it but the stack, [`STACK`].
 
 #[cfg(not(all(target_arch = "x86_64", target_os = "linux")))]
@@ -30,7 +30,7 @@ pub struct Refusal {
 }
 
 impl Refusal {
-    /// The refusal's number, from 1 to 39.
+    /// The refusal's number, from 1 to 46.
     pub fn number(&self) -> u64 {
         self.values[0]
     }
@@ -76,6 +76,31 @@ impl fmt::Display for Refusal {
     }
 }
 
+/// A running tally of line answers; its default is the tally of no answers.
+#[repr(C)]
+#[derive(Clone, Copy, Debug, Default, PartialEq, Eq)]
+pub struct Tally {
+    /// How many answers were added, at most 1,000,000.
+    pub answers: u64,
+    /// How many of them are accepted.
+    pub accepted: u64,
+    /// The sum of the links of these.
+    pub links: u64,
+}
+
+/// A fraction in lowest terms.
+#[derive(Clone, Copy, Debug, PartialEq, Eq)]
+pub struct Fraction {
+    pub numerator: u64,
+    pub denominator: u64,
+}
+
+impl fmt::Display for Fraction {
+    fn fmt(&self, f: &mut fmt::Formatter<'_>) -> fmt::Result {
+        write!(f, "{}/{}", self.numerator, self.denominator)
+    }
+}
+
 type Check = unsafe extern "C" fn(*const u8, usize, *const u8, usize, *const u8, usize, *mut [u64; 8]) -> u32;
 
 extern "C" {
@@ -109,6 +134,11 @@ extern "C" {
         mode: u32,
         numbers: *mut [u64; 8],
     ) -> u32;
+
+    fn add_accepted_to_tally(tally: *mut Tally, links: u64, numbers: *mut [u64; 8]) -> u32;
+    fn add_refused_to_tally(tally: *mut Tally, numbers: *mut [u64; 8]) -> u32;
+    fn share_of_tally(tally: *const Tally, numbers: *mut [u64; 8]) -> u32;
+    fn mean_of_tally(tally: *const Tally, numbers: *mut [u64; 8]) -> u32;
 }
 
 /// What a check wrote: how many numbers, and the numbers.
@@ -157,5 +187,45 @@ pub fn mode_owner(pack: &[u8], batch: &[u8], house: &[u8], mode: u32) -> Owner {
     match refusal.values {
         [0, reactor, ..] => Owner::Reactor(reactor as u32),
         _ => Owner::Refused(refusal),
+    }
+}
+
+impl Tally {
+    /// Adds an accepted answer with its links, or leaves the tally as it was: 46, 40 or 44.
+    pub fn add_accepted(&mut self, links: u64) -> Result<(), Refusal> {
+        // SAFETY: the tally is this call's alone, and has the layout of the header's; `written` is this call's alone.
+        added(written_by(|written| unsafe { add_accepted_to_tally(self, links, written) }))
+    }
+
+    /// Adds a refused answer, or leaves the tally as it was: 46 or 40.
+    pub fn add_refused(&mut self) -> Result<(), Refusal> {
+        // SAFETY: as in `add_accepted`.
+        added(written_by(|written| unsafe { add_refused_to_tally(self, written) }))
+    }
+
+    /// The share of answers that are accepted: 46, or 45 where there is no answer.
+    pub fn share(&self) -> Result<Fraction, Refusal> {
+        // SAFETY: nothing writes the tally while it is lent, and it has the layout of the header's.
+        fraction(written_by(|written| unsafe { share_of_tally(self, written) }))
+    }
+
+    /// The mean links of an accepted answer: 46, or 45 where none is accepted.
+    pub fn mean(&self) -> Result<Fraction, Refusal> {
+        // SAFETY: as in `share`.
+        fraction(written_by(|written| unsafe { mean_of_tally(self, written) }))
+    }
+}
+
+fn added(answer: Refusal) -> Result<(), Refusal> {
+    match answer.values {
+        [0, ..] => Ok(()),
+        _ => Err(answer),
+    }
+}
+
+fn fraction(answer: Refusal) -> Result<Fraction, Refusal> {
+    match answer.values {
+        [0, numerator, denominator, ..] => Ok(Fraction { numerator, denominator }),
+        _ => Err(answer),
     }
 }

@@ -1,5 +1,5 @@
 //! A few packs by hand, and large ones on a stack of `STACK` bytes.
-use image_check::{check_enclave, check_federate, mode_owner, Answer, Owner, STACK};
+use image_check::{check_enclave, check_federate, mode_owner, Answer, Fraction, Owner, Tally, STACK};
 
 /// A record: its table, its bytes 1 and 2, and the words from byte 4 on.
 fn record(table: u8, bits: [u8; 2], words: &[u32]) -> Vec<u8> {
@@ -145,6 +145,25 @@ fn owners_of_modes() {
     }
     assert_eq!(owner(&station(0, 1), 0).to_string(), "refused 23 2 0 0 0");
     assert_eq!(owner(b"", 0).to_string(), "refused 1");
+}
+
+#[test]
+fn tallies() {
+    let mut tally = Tally::default();
+    let refused = |number: u64| format!("refused {number}");
+    assert_eq!(tally.share().unwrap_err().to_string(), refused(45));
+    assert_eq!((tally.add_refused(), tally.mean().unwrap_err().number()), (Ok(()), 45));
+    assert_eq!((tally.add_accepted(6), tally.add_accepted(4), tally.add_refused()), (Ok(()), Ok(()), Ok(())));
+    assert_eq!(tally, Tally { answers: 4, accepted: 2, links: 10 });
+    assert_eq!(tally.share(), Ok(Fraction { numerator: 1, denominator: 2 }));
+    assert_eq!(tally.mean().unwrap().to_string(), "5/1");
+    assert_eq!(tally.add_accepted(u64::MAX).unwrap_err().to_string(), refused(44));
+    let full = Tally { answers: 1_000_000, accepted: 1, links: u64::MAX };
+    tally = full;
+    assert_eq!((tally.add_accepted(1).unwrap_err().number(), tally), (40, full));
+    tally.accepted = 0;
+    assert_eq!(tally.add_refused().unwrap_err().number(), 46);
+    assert_eq!(tally.share().unwrap_err().number(), 46);
 }
 
 #[test]

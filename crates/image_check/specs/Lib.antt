@@ -1,1 +1,2 @@
 pub mod Answered
+pub mod Tallies

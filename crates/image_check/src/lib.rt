@@ -1,6 +1,8 @@
 // What a host in another language asks: each answer as the documents' numbers, in eight numbers that the host lends.
 #![tactic(auto)]
 
+pub mod tallies;
+
 ghost use Rattle.std.specs.Prelude.{◌≤◌, length};
 ghost use Rattle.enclave.specs.Answer.{enclave_answer};
 ghost use Rattle.federate.specs.Answer.{federate_answer};

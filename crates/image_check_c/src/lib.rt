@@ -1,10 +1,17 @@
 // The exports of image_check, for a host in another language: libimage_check.a.
 #![tactic(auto)]
 
+ghost use Rattle.std.specs.Prelude.{◌≡◌};
 ghost use Rattle.enclave.specs.Answer.{enclave_answer};
 ghost use Rattle.federate.specs.Answer.{federate_answer};
 ghost use Rattle.mode_owner.specs.Owner.{owner_answer};
+ghost use Rattle.tally.specs.declared.LineResult.TheVariants.{Accepted, Refused};
+ghost use Rattle.tally.specs.Tally.{add_answer, added};
+ghost use Rattle.tally.specs.Fractions.{share, mean};
 ghost use Rattle.image_check.specs.Answered.{Answered};
+ghost use Rattle.image_check.specs.Tallies.{tally_of, tally_numbers, added_numbers, fraction_numbers};
+
+use image_check::tallies;
 
 // The answer for an enclave pack and its two texts; the result is how many of `numbers` hold it.
 #[unsafe(no_mangle)]
@@ -44,4 +51,42 @@ pub extern "C" fn mode_owner_of_image<'a>(
     ensures { Answered (owner_answer pack.now batch.now house.now mode) result numbers.new }
 {
     image_check::mode_owner_of_image(pack, batch, house, mode, numbers)
+}
+
+// Adds an accepted answer to a tally, with its links; the result is how many of `numbers` hold the answer.
+#[unsafe(no_mangle)]
+pub extern "C" fn add_accepted_to_tally(
+    tally: &mut [u64; 3],
+    links: u64,
+    numbers: &mut [u64; 8],
+) -> u32
+    ensures answer { Answered (added_numbers (add_answer (tally_of tally.old) (Accepted links))) result numbers.new }
+    ensures tally { tally.new ≡ tally_numbers (added (tally_of tally.old) (Accepted links)) }
+{
+    tallies::add_accepted_to_tally(tally, links, numbers)
+}
+
+// Adds a refused answer to a tally; the result is how many of `numbers` hold the answer.
+#[unsafe(no_mangle)]
+pub extern "C" fn add_refused_to_tally(tally: &mut [u64; 3], numbers: &mut [u64; 8]) -> u32
+    ensures answer { Answered (added_numbers (add_answer (tally_of tally.old) Refused)) result numbers.new }
+    ensures tally { tally.new ≡ tally_numbers (added (tally_of tally.old) Refused) }
+{
+    tallies::add_refused_to_tally(tally, numbers)
+}
+
+// The share accepted of a tally; the result is how many of `numbers` hold the answer.
+#[unsafe(no_mangle)]
+pub extern "C" fn share_of_tally<'a>(tally: &'a [u64; 3], numbers: &mut [u64; 8]) -> u32
+    ensures { Answered (fraction_numbers (share (tally_of tally.now))) result numbers.new }
+{
+    tallies::share_of_tally(tally, numbers)
+}
+
+// The mean links of an accepted line of a tally; the result is how many of `numbers` hold the answer.
+#[unsafe(no_mangle)]
+pub extern "C" fn mean_of_tally<'a>(tally: &'a [u64; 3], numbers: &mut [u64; 8]) -> u32
+    ensures { Answered (fraction_numbers (mean (tally_of tally.now))) result numbers.new }
+{
+    tallies::mean_of_tally(tally, numbers)
 }
