@@ -27,10 +27,8 @@ struct Holder {
 
 // The first reactor whose span holds a mode. The rows are counted where they are read: no row past the reactor is.
 fn first_holder(e: &Enclave, mode: ModeIndex) -> Option<Holder>
-    ensures {
-        let m = image_of e.now in
-        MatchOption result (NoHolder (holds m mode.0) (m.rows 2)) (λ h. FirstHolder (holds m mode.0) (m.rows 2) h.reactor.0 h.rows_read)
-    }
+    ensures { let m = image_of e.now in
+        MatchOption result (NoHolder (holds m mode.0) (m.rows 2)) (λ h. FirstHolder (holds m mode.0) (m.rows 2) h.reactor.0 h.rows_read) }
 {
     let mut rows_read = 0u32;
     for i in 0..e.rows(ReactorImage::TABLE) {
@@ -59,11 +57,19 @@ fn owner_in(e: &Enclave, mode: ModeIndex) -> Result<ReactorIndex, Refusal>
 }
 
 // The reactor that a mode of an enclave pack belongs to; the check's refusal, or that the enclave has no such mode.
-pub fn mode_owner(pack: &[u8], batch: &[u8], house: &[u8], mode: u32) -> Result<ReactorIndex, Refusal>
+pub fn mode_owner(
+    pack: &[u8],
+    batch: &[u8],
+    house: &[u8],
+    mode: u32,
+) -> Result<ReactorIndex, Refusal>
     ensures { owner_numbers result ≡ owner_answer pack.now batch.now house.now mode }
 {
     let mut starts = TableStarts::none();
     check_enclave_starts(pack, batch, house, &mut starts)?;
     let texts = Texts { batch, house };
-    owner_in(&enclave(Pack { bytes: pack }, &starts, texts), ModeIndex::new(mode))
+    owner_in(
+        &enclave(Pack { bytes: pack }, &starts, texts),
+        ModeIndex::new(mode),
+    )
 }
