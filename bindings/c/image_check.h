@@ -17,7 +17,7 @@ extern "C" {
  *
  * The result says how many of `numbers` hold the answer, from 1 to 7 (7 for refusals 12 and 13); the others of the eight are set to 0.
  *   numbers[0] is 0: accepted. Then follow, for an enclave, the links (result 2); for a federate, the stations and the links (result 3).
- *   numbers[0] is not 0: refused. It is the refusal's number, from 1 to 46, and the numbers that it carries follow. docs/REFUSALS.md lists
+ *   numbers[0] is not 0: refused. It is the refusal's number, from 1 to 39, and the numbers that it carries follow. docs/REFUSALS.md lists
  *   them. Tables are numbered 0 to 25, as in the pack (25 are the deadlines, which may be left out); in 13 also 255, the numbers of stations.
  * The program `replay` prints these numbers: `accepted` (`owner` for a mode's owner) and those after the 0, or `refused` and all of them.
  *

@@ -9,7 +9,7 @@
 #include "image_check.h"
 
 /* The kinds of question. */
-enum { STATION = 0, LINE = 1, OWNER = 6 };
+enum { STATION = 0, LINE = 1, OWNER = 6, TALLY = 12 };
 
 static void die(const char *what)
 {
@@ -177,7 +177,7 @@ static int answer_case(const uint8_t *head, int null_if_empty)
     uint8_t *house = part(h, null_if_empty, &whole);
     uint32_t mode = asked(head[0], &whole);
     uint64_t *numbers;
-    if (head[0] == 12) {
+    if (head[0] == TALLY) {
         free(pack);
         free(batch);
         free(house);

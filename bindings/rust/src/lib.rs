@@ -1,7 +1,7 @@
 //! The check of packed images: one station (an enclave) or a whole line (a federate), over a pack, its batch text and its house text.
 //!
-//! Any three byte slices get an answer. A [`Tally`] counts answers of lines. The code behind it is proved (`crates/image_check`); what its boundary assumes is said in
-//! `bindings/c/image_check.h`, and a slice of Rust's brings all of it but the stack, [`STACK`].
+//! Any three byte slices get an answer. A [`Tally`] counts answers of lines. The code behind it is proved (`crates/image_check`); what
+//! its boundary assumes is said in `bindings/c/image_check.h`, and a slice of Rust's brings all of it but the stack, [`STACK`].
 
 #[cfg(not(all(target_arch = "x86_64", target_os = "linux")))]
 compile_error!("libimage_check.a is for x86-64 Linux");

@@ -147,8 +147,7 @@ fn owners_of_modes() {
     assert_eq!(owner(b"", 0).to_string(), "refused 1");
 }
 
-#[test]
-fn tallies() {
+fn try_tallies() {
     let mut tally = Tally::default();
     let refused = |number: u64| format!("refused {number}");
     assert_eq!(tally.share().unwrap_err().to_string(), refused(45));
@@ -164,6 +163,11 @@ fn tallies() {
     tally.accepted = 0;
     assert_eq!(tally.add_refused().unwrap_err().number(), 46);
     assert_eq!(tally.share().unwrap_err().number(), 46);
+}
+
+#[test]
+fn tallies() {
+    on_small_stack(try_tallies);
 }
 
 #[test]

@@ -27,7 +27,13 @@ pub enum Asked<'a> {
     Tally(TallyCase<'a>),
 }
 
-// The kind of question that is of a tally.
+// The corpus's numbers for the kinds of question.
+const ENCLAVE: u8 = 0;
+
+const FEDERATE: u8 = 1;
+
+const MODE_OWNER: u8 = 6;
+
 const TALLY: u8 = 12;
 
 // Why a case is not read: it is cut off, its first byte is no kind of question or one of its steps is none, or its reading failed.
@@ -85,12 +91,12 @@ pub struct Room<'a> {
     pub house: &'a mut [u8],
 }
 
-// Takes what follows the parts, by the corpus's number for a kind of question.
+// Takes what follows the parts of a question of that kind.
 fn read_question<R: Read>(kind: u8, input: &mut R) -> Result<Question, ReadError> {
     match kind {
-        0 => Ok(Question::Enclave),
-        1 => Ok(Question::Federate),
-        6 => Ok(Question::ModeOwner {
+        ENCLAVE => Ok(Question::Enclave),
+        FEDERATE => Ok(Question::Federate),
+        MODE_OWNER => Ok(Question::ModeOwner {
             mode: read_u32(input)?,
         }),
         _ => Err(ReadError::UnknownKind),
