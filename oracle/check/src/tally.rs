@@ -1,5 +1,5 @@
 //! The month in fractions (document 02, Wish 13): a tally, and what each step of a case gives.
-use pack::corpus::TALLY_HEAD;
+use pack::tally::{read, Step};
 use std::fmt;
 
 /// The most answers that a tally takes.
@@ -28,29 +28,25 @@ pub struct Tallied {
     pub after: Tally,
 }
 
-/// The steps from the tally on, as they follow the parts of a case.
+/// What the steps of a case give, one after the other, by what follows its parts.
 pub fn of(rest: &[u8]) -> Tallied {
-    let (head, mut left) = rest.split_at(TALLY_HEAD as usize);
-    let mut tally = Tally { answers: number(head), accepted: number(&head[8..]), links: number(&head[16..]) };
-    let mut steps = Vec::new();
-    while let [step, after @ ..] = left {
-        left = if *step == 1 { &after[8..] } else { after };
-        steps.push(match step {
-            0 => tally.add(0, 0),
-            1 => tally.add(1, number(after)),
-            2 => tally.fraction(tally.accepted, tally.answers),
-            _ => tally.fraction(tally.links, tally.accepted),
-        });
-    }
+    let ([answers, accepted, links], steps) = read(rest);
+    let mut tally = Tally { answers, accepted, links };
+    let steps = steps.into_iter().map(|step| tally.take(step)).collect();
     Tallied { steps, after: tally }
 }
 
-fn number(bytes: &[u8]) -> u64 {
-    bytes[..8].iter().fold(0, |number, byte| number << 8 | u64::from(*byte))
-}
-
 impl Tally {
-    /// Whether a sequence gives it: some answers, not too many, some of these accepted, and links of these alone.
+    fn take(&mut self, step: Step) -> Given {
+        match step {
+            Step::Refused => self.add(0, 0),
+            Step::Accepted(links) => self.add(1, links),
+            Step::Share => self.fraction(self.accepted, self.answers),
+            Step::Mean => self.fraction(self.links, self.accepted),
+        }
+    }
+
+    /// Whether a sequence gives it: no more accepted than answers, not too many of these, and links of accepted ones alone.
     fn is_given(self) -> bool {
         let refused = self.answers.checked_sub(self.accepted);
         refused.is_some() && self.answers <= MOST && (self.links == 0 || self.accepted > 0)

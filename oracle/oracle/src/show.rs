@@ -1,10 +1,11 @@
 //! A case record by record in words, with its answer.
 use crate::{one, sites, Done};
 use check::{answer, Answer};
-use pack::corpus::{Case, Kind, TALLY, TALLY_HEAD};
+use pack::corpus::{Case, Kind, TALLY};
 use pack::layout::{numbers, Shape, ACTIONS, BINDINGS, REACTIONS, ROUTES, TABLES};
 use pack::names::{direction_name, field_name, kind_name, refusal_of, table_name, Value};
 use pack::row::Row;
+use pack::tally::{self, Step};
 use pack::RECORD;
 use std::collections::BTreeMap;
 
@@ -14,7 +15,7 @@ const MOST: usize = 400;
 pub fn print(corpus: &str, number: &str) -> Done {
     let case = one(corpus, number)?;
     if case.kind == TALLY {
-        tally(number, &case);
+        show_tally(number, &case);
         return Ok(true);
     }
     let kind = match case.kind() {
@@ -38,19 +39,15 @@ pub fn print(corpus: &str, number: &str) -> Done {
 }
 
 /// A tally by its numbers, its steps and what each of them gave.
-fn tally(number: &str, case: &Case) {
-    let (head, steps) = case.rest.split_at(TALLY_HEAD as usize);
-    let number_at = |bytes: &[u8]| bytes[..8].iter().fold(0_u64, |n, byte| n << 8 | u64::from(*byte));
-    let [answers, accepted, links] = [0, 8, 16].map(|at| number_at(&head[at..]));
+fn show_tally(number: &str, case: &Case) {
+    let ([answers, accepted, links], steps) = tally::read(&case.rest);
     println!("case {number}: a tally of {answers} answers, {accepted} accepted, {links} links");
-    let mut left = steps;
-    while let [step, after @ ..] = left {
-        left = if *step == 1 { &after[8..] } else { after };
+    for step in steps {
         match step {
-            0 => println!("  a refused answer comes in"),
-            1 => println!("  an accepted one with {} links", number_at(after)),
-            2 => println!("  the share is asked"),
-            _ => println!("  the mean is asked"),
+            Step::Refused => println!("  a refused answer comes in"),
+            Step::Accepted(links) => println!("  an accepted one with {links} links"),
+            Step::Share => println!("  the share is asked"),
+            Step::Mean => println!("  the mean is asked"),
         }
     }
     println!("answer: {}", answer(case));

@@ -5,6 +5,7 @@ pub mod names;
 pub mod packing;
 pub mod rng;
 pub mod row;
+pub mod tally;
 pub mod utf8;
 
 /// Bytes of one record.
