@@ -1,15 +1,19 @@
-// Document 01's lines tried by hand, and its misreadings, and deadlines: packs from rows, a line for each with the check's answer.
+// The papers' lines tried by hand, and document 01's misreadings: packs from rows, a line for each with the check's answer, and tallies.
 #![tactic(auto)]
 
 mod enclaves;
 mod federates;
+mod owners;
 mod parts;
 mod rows;
 mod show;
+mod tallies;
 
 use anyhow::Result;
 
 fn main(rt: HostRuntime) -> Result<()> {
     enclaves::cases(&rt)?;
-    federates::cases(&rt)
+    federates::cases(&rt)?;
+    owners::cases(&rt)?;
+    tallies::cases(&rt)
 }

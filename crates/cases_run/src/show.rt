@@ -4,11 +4,12 @@ use cases::records::{Pack, RecordBytes, Recorded, put};
 use enclave::check::check_enclave;
 use federate::FederateAccepted;
 use federate::check::check_federate;
+use mode_owner::mode_owner;
 use schema::rows::FederateImage;
 use std::io;
 use std::io::Write;
 
-fn show_name(rt: &HostRuntime, name: &[u8]) -> io::Result<()> {
+pub fn show_name(rt: &HostRuntime, name: &[u8]) -> io::Result<()> {
     io::writer(rt).write_all(name)?;
     print!(rt; ": ")
 }
@@ -31,6 +32,22 @@ pub fn show_enclave(
     batch: &[u8],
 ) -> Result<()> {
     show_enclave_bytes(rt, name, records.as_flattened(), batch)
+}
+
+// The owner of a mode of a station.
+pub fn show_owner(
+    rt: &HostRuntime,
+    name: &[u8],
+    records: &[RecordBytes],
+    batch: &[u8],
+    mode: u32,
+) -> Result<()> {
+    show_name(rt, name)?;
+    match mode_owner(records.as_flattened(), batch, b"", mode) {
+        Ok(reactor) => println!(rt; "owner {}", reactor.0)?,
+        Err(refusal) => println!(rt; "refused {refusal}")?,
+    }
+    Ok(())
 }
 
 // The answer for a line: its own record, and the records of each station.
