@@ -82,6 +82,7 @@ function refused(n) {
   if (n <= 21) return of_identities(n)
   if (n <= 25) return of_reactors_and_bindings(n)
   if (n <= 28) return of_routes(n)
+  if (n <= 31) return of_the_night(n)
   return n <= 39 ? of_deadlines(n) : of_tallies(n)
 }
 
@@ -131,8 +132,17 @@ function of_reactors_and_bindings(n) {
 
 function of_routes(n) {
   if (!has(4)) return ""
+  if (n == 26) return "The " name("direction", $6) " half of the boundary " place(3) " has no other half in the line."
   if (n == 27) return "The boundary " place(3) " has more than one " name("direction", $6) " half."
   if (n == 28) return "The two halves of the boundary " place(3) " differ in " name("field", $6) "."
+  return ""
+}
+
+function of_the_night(n) {
+  if (!has(2)) return ""
+  if (n == 29) return "routes[" $4 "] of station " $3 " is physical; at night every route is logical."
+  if (n == 30) return "scopes[" $4 "] of station " $3 " has more than 8 ancestors, the most at night."
+  if (n == 31) return "Station " $3 " has " counted($4, "reactor") "; at night a station has at most 64."
   return ""
 }
 

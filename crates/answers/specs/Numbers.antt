@@ -5,7 +5,7 @@ use Rattle.schema.specs.Records.{direction_number}
 use Rattle.answers.specs.declared.field.RowField.{RowField}
 use Rattle.answers.specs.declared.id.StableId.{StableId}
 use Rattle.answers.specs.declared.Refusal.{Refusal}
-use Rattle.answers.specs.declared.Refusal.TheVariants.{Length, TextTooLong, TableOutOfPlace, StrayByte, IdentityOutside, NotUtf8, ReferenceOutOfBounds, RangeOutOfBounds, RangesNotMonotonic, EntriesNotSorted, DuplicateEntry, OwnershipMismatch, ScopeParentCycle, InvalidStableId, StableIdsNotSorted, DuplicateStableId, InvalidBankInfo, StorageBoundExceeded, BindingKindMismatch, BindingPresenceMismatch, DuplicateRouteHalf, RoutePairMismatch, ZeroDeadline, TallyFull, LinkSumTooLarge, NothingToDivide, NoSuchTally}
+use Rattle.answers.specs.declared.Refusal.TheVariants.{Length, TextTooLong, TableOutOfPlace, StrayByte, IdentityOutside, NotUtf8, ReferenceOutOfBounds, RangeOutOfBounds, RangesNotMonotonic, EntriesNotSorted, DuplicateEntry, OwnershipMismatch, ScopeParentCycle, InvalidStableId, StableIdsNotSorted, DuplicateStableId, InvalidBankInfo, StorageBoundExceeded, BindingKindMismatch, BindingPresenceMismatch, DuplicateRouteHalf, RoutePairMismatch, UnpairedRoute, PhysicalRoute, ScopeTooDeep, TooManyReactors, ZeroDeadline, TallyFull, LinkSumTooLarge, NothingToDivide, NoSuchTally}
 use Rattle.answers.specs.Fields.{field_number, kind_number}
 
 abbrev pub bit : Bool → ℕ
@@ -45,6 +45,10 @@ numbers (BindingKindMismatch at) = 24 ∷ located at []
 numbers (BindingPresenceMismatch at) = 25 ∷ located at []
 numbers (DuplicateRouteHalf boundary direction) = 27 ∷ placed boundary (direction_number direction ∷ [])
 numbers (RoutePairMismatch boundary field) = 28 ∷ placed boundary (field_number field ∷ [])
+numbers (UnpairedRoute boundary direction) = 26 ∷ placed boundary (direction_number direction ∷ [])
+numbers (PhysicalRoute enclave route) = 29 ∷ enclave ∷ route ∷ []
+numbers (ScopeTooDeep enclave scope) = 30 ∷ enclave ∷ scope ∷ []
+numbers (TooManyReactors enclave reactors) = 31 ∷ enclave ∷ reactors ∷ []
 numbers (ZeroDeadline index) = 39 ∷ index ∷ []
 numbers TallyFull = 40 ∷ []
 numbers LinkSumTooLarge = 44 ∷ []

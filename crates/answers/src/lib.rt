@@ -17,7 +17,8 @@ use std::error::Error;
 use std::fmt;
 
 // One variant for each refusal of document 01 that a pack can have (all but 11), named as the Rust names it, with its values one by one as the Rust has
-// them, and then those of document 02, in their order; 1 to 6 are the packing rules', 40 and 44 to 46 a tally's.
+// them, and then those of document 02, in their order; 1 to 6 are the packing rules', 26 and
+// 29 to 31 the night's, 40 and 44 to 46 a tally's.
 // Which text is too long is shown by the bit that tells an identity's text, 0 for the batch and 1 for the house.
 #[derive(Clone, Copy, Debug)]
 pub enum Refusal {
@@ -101,6 +102,22 @@ pub enum Refusal {
     RoutePairMismatch {
         boundary: IdentityPlace,
         field: Field,
+    },
+    UnpairedRoute {
+        boundary: IdentityPlace,
+        direction: RouteDirection,
+    },
+    PhysicalRoute {
+        enclave: u32,
+        route: u32,
+    },
+    ScopeTooDeep {
+        enclave: u32,
+        scope: u32,
+    },
+    TooManyReactors {
+        enclave: u32,
+        reactors: u32,
     },
     ZeroDeadline {
         index: u32,
@@ -220,6 +237,19 @@ impl Refusal {
             } => with_boundary(27, boundary, u8::from(direction)),
             Refusal::RoutePairMismatch { boundary, field } => {
                 with_boundary(28, boundary, u8::from(field))
+            }
+            Refusal::UnpairedRoute {
+                boundary,
+                direction,
+            } => with_boundary(26, boundary, u8::from(direction)),
+            Refusal::PhysicalRoute { enclave, route } => {
+                listed(&[29, u64::from(enclave), u64::from(route)])
+            }
+            Refusal::ScopeTooDeep { enclave, scope } => {
+                listed(&[30, u64::from(enclave), u64::from(scope)])
+            }
+            Refusal::TooManyReactors { enclave, reactors } => {
+                listed(&[31, u64::from(enclave), u64::from(reactors)])
             }
             Refusal::ZeroDeadline { index } => listed(&[39, u64::from(index)]),
             Refusal::TallyFull => listed(&[40]),

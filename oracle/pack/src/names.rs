@@ -59,6 +59,7 @@ const TABLE: Value = Value::Table("table");
 const TARGET: Value = Value::Table("target");
 const INDEX: Value = Plain("index");
 const RECORD: Value = Plain("record");
+const STATION: Value = Plain("station");
 const BIT: Value = Plain("text bit");
 const START: Value = Plain("start");
 const LENGTH: Value = Plain("length");
@@ -75,7 +76,7 @@ const fn refusal(number: u64, name: &'static str, values: &'static [Value]) -> R
 
 const IDENTITY: &[Value] = &[Kind, INDEX, BIT, START, LENGTH];
 
-pub const REFUSALS: [Refusal; 27] = [
+pub const REFUSALS: [Refusal; 31] = [
     refusal(1, "length of the pack", &[]),
     refusal(2, "text too long", &[Plain("text")]),
     refusal(3, "table number unknown or out of place", &[RECORD]),
@@ -96,8 +97,12 @@ pub const REFUSALS: [Refusal; 27] = [
     refusal(23, "StorageBoundExceeded", &[TABLE, INDEX, Plain("slot"), Plain("bound")]),
     refusal(24, "BindingKindMismatch", &[TABLE, INDEX, Field]),
     refusal(25, "BindingPresenceMismatch", &[TABLE, INDEX, Field]),
+    refusal(26, "UnpairedRoute", &[BIT, START, LENGTH, Direction]),
     refusal(27, "DuplicateRouteHalf", &[BIT, START, LENGTH, Direction]),
     refusal(28, "RoutePairMismatch", &[BIT, START, LENGTH, Field]),
+    refusal(29, "PhysicalRoute", &[STATION, Plain("route")]),
+    refusal(30, "ScopeTooDeep", &[STATION, Plain("scope")]),
+    refusal(31, "TooManyReactors", &[STATION, Plain("reactors")]),
     refusal(39, "ZeroDeadline", &[INDEX]),
     refusal(40, "TallyFull", &[]),
     refusal(44, "LinkSumTooLarge", &[]),
