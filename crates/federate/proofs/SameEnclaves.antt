@@ -50,7 +50,7 @@ module _ (p q : List ℕ) (s : SameTables p q) where
         rw (same_test p q s 23 k)
         (cases (is_of p 23 k) (λ e. rw (e, routes k e)) (λ e. rw e))
 
-    same_halves : (r : RouteImage) (counted : RouteImage → Bool) → halves text q r counted ≡ halves text p r counted
+    pub same_halves : (r : RouteImage) (counted : RouteImage → Bool) → halves text q r counted ≡ halves text p r counted
     same_halves r counted =
         ap (λ (f : ℕ → Bool). count_below f (records_of q)) (fun_ext (same_half r counted))
         ∙ ap (count_below (half_at text p r counted)) (same_records p q s)

@@ -25,13 +25,13 @@ use Rattle.route_pairs.proofs.Pairs.{Beside, Paired, halves_are, are_paired, sam
 
 -- what it says that a row fits
 module _ (text : IdentityPlace → List ℕ) (p rows : List ℕ) where
-  abbrev at : ℕ → ℕ
+  abbrev pub at : ℕ → ℕ
   at k = get_or rows k 0
 
-  abbrev key : ℕ → List ℕ
+  abbrev pub key : ℕ → List ℕ
   key k = boundary_at text p (get_or rows k 0)
 
-  parted_not : (k j : ℕ) → parted text p rows k j ≡ true → j < length rows → key k ≡ key j → ⊥
+  pub parted_not : (k j : ℕ) → parted text p rows k j ≡ true → j < length rows → key k ≡ key j → ⊥
   parted_not k j h g e =
       or_true (leb (length rows) j) _ h
       (λ t. let z = leb-true (length rows) j t in omega arith)
@@ -40,7 +40,7 @@ module _ (text : IdentityPlace → List ℕ) (p rows : List ℕ) where
       let z = rw q at t in
       absurd (cc))
 
-  parted_from : (k j : ℕ) → (j < length rows → key k ≡ key j → ⊥) → parted text p rows k j ≡ true
+  pub parted_from : (k j : ℕ) → (j < length rows → key k ≡ key j → ⊥) → parted text p rows k j ≡ true
   parted_from k j far =
       cases (leb (length rows) j)
       (λ t. rw t)

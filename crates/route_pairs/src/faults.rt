@@ -13,9 +13,9 @@ use schema::rows::RouteImage;
 use std::cmp::Ordering;
 
 // Up to so many routes are sorted in an array of this size, and more in one for as many records as a pack has.
-const SOME_ROUTES: usize = 1024;
+pub const SOME_ROUTES: usize = 1024;
 
-const MAX_ROUTES: usize = PACK_LIMIT / 64;
+pub const MAX_ROUTES: usize = PACK_LIMIT / 64;
 
 // Whether two routes of one boundary are its two halves: no equality, since they differ in their direction, and their ports are free.
 fn are_halves(a: RouteImage, b: RouteImage) -> bool
@@ -29,7 +29,7 @@ fn are_halves(a: RouteImage, b: RouteImage) -> bool
 impl<'a> Federate<'a> {
     // How many routes the pack has.
     #[tactic(auto, using(crate::proofs::Rows::routes_counted))]
-    fn count(self) -> usize
+    pub fn count(self) -> usize
         ensures { result ≡ length (routes_of self.entry.pack.bytes.now) }
     {
         self.pack.count_of(RouteImage::TABLE) as usize
@@ -37,7 +37,7 @@ impl<'a> Federate<'a> {
 
     // The routes, in the order of the records. By a loop: `extend` answers an error of memory, which there is none of.
     #[tactic(auto, using(crate::proofs::Rows::rows_laws))]
-    fn list<const ROOM: usize>(self, rows: &mut ArrayVec<u32, ROOM>)
+    pub fn list<const ROOM: usize>(self, rows: &mut ArrayVec<u32, ROOM>)
         requires none { rows.old.items ≡ [] }
         requires room { length (routes_of self.pack.bytes.now) ≤ ROOM }
         ensures { rows.new.items ≡ routes_of self.entry.pack.bytes.now }
@@ -75,7 +75,7 @@ impl<'a> Federate<'a> {
     }
 
     // Whether the row at place j, if there is one, is of another boundary than the one at place k. By places, as the definition has them.
-    fn parted(self, rows: &[u32], k: usize, j: usize) -> bool
+    pub fn parted(self, rows: &[u32], k: usize, j: usize) -> bool
         requires { k < length rows.now }
         ensures { result ≡ parted (text_of self.entry) self.entry.pack.bytes.now rows.now k j }
     {

@@ -46,7 +46,7 @@ module _ (p q batch house : List ℕ) (h : Packed Federate p batch house) (d : D
   -- an enclave's image
   own_same : (n : ℕ) → n < records_of p → is_of p 1 n ≡ true → SameRows (image_at p batch house n) (image_at q batch house n)
   own_same n l o =
-      images_same (enclave_pack p n) (enclave_pack q n) (parts_differ p q e n) batch house
+      images_same (enclave_pack p n) (enclave_pack q n) (parts_differ Enclave p q e n) batch house
       (part_first p batch house h n l o) (part_rises p batch house h n l)
 
   order_same : (from n : ℕ) → is_of p 1 n ≡ true → order_checks q batch house from n ≡ order_checks p batch house from n
