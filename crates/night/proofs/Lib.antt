@@ -1,0 +1,3 @@
+pub mod EnclaveLaws
+pub mod HalfLaws
+pub mod Day

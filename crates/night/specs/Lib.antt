@@ -1,0 +1,3 @@
+pub mod Enclaves
+pub mod Halves
+pub mod Night
