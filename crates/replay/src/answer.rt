@@ -5,6 +5,7 @@ use enclave::check::check_enclave;
 use federate::FederateAccepted;
 use federate::check::check_federate;
 use mode_owner::mode_owner;
+use night::check_federate_night;
 use schema::index::ReactorIndex;
 use std::fmt;
 
@@ -26,6 +27,7 @@ pub fn answer_of(case: Case) -> Answer {
     match question {
         Question::Enclave => Answer::Enclave(check_enclave(pack, batch, house)),
         Question::Federate => Answer::Federate(check_federate(pack, batch, house)),
+        Question::FederateNight => Answer::Federate(check_federate_night(pack, batch, house)),
         Question::ModeOwner { mode } => Answer::ModeOwner(mode_owner(pack, batch, house, mode)),
     }
 }

@@ -3,11 +3,12 @@ use crate::steps::{TallyCase, read_tally};
 use std::io;
 use std::io::{BufRead, ErrorKind, Read};
 
-// What is asked of a pack and its texts: the check of an enclave or of a federate, or the owner of a mode.
+// What is asked of a pack and its texts: the check of an enclave, of a federate or of one at night, or the owner of a mode.
 #[derive(Clone, Copy)]
 pub enum Question {
     Enclave,
     Federate,
+    FederateNight,
     ModeOwner { mode: u32 },
 }
 
@@ -31,6 +32,8 @@ pub enum Asked<'a> {
 const ENCLAVE: u8 = 0;
 
 const FEDERATE: u8 = 1;
+
+const FEDERATE_NIGHT: u8 = 2;
 
 const MODE_OWNER: u8 = 6;
 
@@ -96,6 +99,7 @@ fn read_question<R: Read>(kind: u8, input: &mut R) -> Result<Question, ReadError
     match kind {
         ENCLAVE => Ok(Question::Enclave),
         FEDERATE => Ok(Question::Federate),
+        FEDERATE_NIGHT => Ok(Question::FederateNight),
         MODE_OWNER => Ok(Question::ModeOwner {
             mode: read_u32(input)?,
         }),
