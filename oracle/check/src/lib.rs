@@ -4,6 +4,7 @@ mod deadlines;
 mod enclave;
 mod identities;
 mod links;
+pub mod night;
 mod numbers;
 pub mod owner;
 mod places;
@@ -21,7 +22,7 @@ use boomerang_runtime::image::{
 };
 use enclave::Enclave;
 use identities::Identities;
-use pack::corpus::{Case, Kind, TALLY};
+use pack::corpus::{Case, Kind, NIGHT, TALLY};
 use pack::layout::{ENCLAVE, FEDERATE};
 use pack::packing;
 use pack::row::Row;
@@ -36,8 +37,13 @@ pub fn answer(case: &Case) -> Answer {
         Err(fault) => Answer::Refused(std::iter::once(fault.refusal).chain(fault.number).collect()),
         Ok(()) => after_packing(case, kind),
     };
-    match (case.mode(), &answer) {
-        (Some(mode), Answer::Accepted { .. }) => owner::of(&rows(case), mode),
+    if !matches!(answer, Answer::Accepted { .. }) {
+        return answer;
+    }
+    let rows = rows(case);
+    match (case.mode(), case.kind) {
+        (Some(mode), _) => owner::of(&rows, mode),
+        (None, NIGHT) => night::refusal(case, &stations(&rows)).map_or(answer, Answer::Refused),
         _ => answer,
     }
 }

@@ -7,11 +7,11 @@ use pack::row::Row;
 
 /// A route half by the number of its boundary.
 #[derive(Clone, Copy, PartialEq, Eq, PartialOrd, Ord)]
-struct Half {
-    boundary: usize,
-    outbound: bool,
-    physical: bool,
-    delay: u64,
+pub struct Half {
+    pub boundary: usize,
+    pub outbound: bool,
+    pub physical: bool,
+    pub delay: u64,
 }
 
 /// Many scopes or, in a line, many routes.
@@ -103,7 +103,10 @@ fn spoil(rng: &mut Rng, routes: &mut [Vec<Half>]) {
         2 => {
             let half = routes[from][at];
             let to = rng.place(routes.len());
-            if !routes[to].iter().any(|other| (other.boundary, other.outbound) == (half.boundary, half.outbound)) {
+            if !routes[to]
+                .iter()
+                .any(|other| (other.boundary, other.outbound) == (half.boundary, half.outbound))
+            {
                 routes[to].push(half);
             }
         }

@@ -6,6 +6,7 @@ mod faults;
 mod grow;
 mod identities;
 mod line;
+mod night;
 mod plan;
 mod styles;
 mod tally;
@@ -30,7 +31,10 @@ fn main() -> ExitCode {
     let Some(run) = arguments(std::env::args().skip(1).collect()) else {
         let styles: Vec<&str> = STYLES.iter().map(|style| style.name).collect();
         eprintln!("gen SEED COUNT OUT [--from N] [--only MIX]");
-        eprintln!("MIX: all, station, line, packing, deadlines, large, deep, owner, tally, {}", styles.join(", "));
+        eprintln!(
+            "MIX: all, station, line, packing, deadlines, large, deep, night, owner, tally, {}",
+            styles.join(", ")
+        );
         return ExitCode::from(2);
     };
     match write(&run) {

@@ -6,8 +6,8 @@ use crate::line::{grown, Extent};
 use crate::plan::{Size, SMALL};
 use crate::rng::Rng;
 use crate::texts::Texts;
-use crate::{faults, identities, tally, tiny};
-use pack::corpus::{Case, Kind, OWNER};
+use crate::{faults, identities, night, tally, tiny};
+use pack::corpus::{Case, Kind, NIGHT, OWNER};
 use pack::layout::{MODES, ROUTES};
 use pack::row::{pack, Row};
 use pack::{PACK_LIMIT, RECORD, TEXT_LIMIT};
@@ -54,7 +54,7 @@ pub struct Mix {
 }
 
 impl Mix {
-    /// The mix with this name: a group, a style, `large`, `deep`, `owner` or `tally`.
+    /// The mix with this name: a group, a style, `large`, `deep`, `night`, `owner` or `tally`.
     pub fn named(name: &str) -> Option<Self> {
         let found = GROUPS.iter().find(|group| group.0 == name);
         let (names, kind) = found.map_or((vec![name], None), |group| (group.1.to_vec(), group.2));
@@ -62,6 +62,7 @@ impl Mix {
         let special: Option<fn(&mut Rng, Kind) -> Case> = match name {
             "large" => Some(large),
             "deep" => Some(deep_image),
+            "night" => Some(at_night),
             "owner" => Some(owner),
             "tally" => Some(|rng, _| tally::case(rng)),
             _ => None,
@@ -248,6 +249,15 @@ fn large(rng: &mut Rng, kind: Kind) -> Case {
 fn deep_image(rng: &mut Rng, kind: Kind) -> Case {
     let (rows, texts) = deep(rng, kind);
     case(kind, &rows, texts)
+}
+
+/// The night's check of a line: of one that is made for it, or of a grown one whose routes are mostly logical; a quarter of the lines damaged.
+fn at_night(rng: &mut Rng, _: Kind) -> Case {
+    let (mut rows, mut texts) = if rng.chance(2, 3) { night::line(rng) } else { night::grown_line(rng) };
+    if rng.chance(1, 4) {
+        damage(rng, &mut rows, &mut texts, None);
+    }
+    Case { kind: NIGHT, ..case(Kind::Federate, &rows, texts) }
 }
 
 /// The owner of a mode is asked of a station whose spans hold none, one or several: of each mode, of those after the last,

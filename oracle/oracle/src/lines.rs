@@ -85,6 +85,10 @@ impl Draft {
         self.line_of(1, name, expected)
     }
 
+    fn night(self, name: &'static str, expected: &'static str) -> Line {
+        self.line_of(2, name, expected)
+    }
+
     fn line_of(self, kind: u8, name: &'static str, expected: &'static str) -> Line {
         let case = Case { kind, pack: pack(&self.rows), batch: self.batch, ..Case::default() };
         Line { name, case, expected }
@@ -104,6 +108,7 @@ pub fn all() -> Vec<Line> {
         deadlines(),
         packed_deadlines(),
         deadlines_of_lines(),
+        night(),
     ]
     .into_iter()
     .flatten()
@@ -353,6 +358,54 @@ fn deadlines_of_lines() -> Vec<Line> {
         a_and_b(ZERO, GOOD)
             .set(FEDERATE, 0, 7, 3)
             .federate("the span's length before a deadline", "refused 17 0 0 33"),
+    ]
+}
+
+/// Lines at night (Wish 2).
+fn night() -> Vec<Line> {
+    let scopes = |links: u64| {
+        (0..links).fold(smallest(), |draft, under| {
+            let mut numbers = [0; 15];
+            numbers[0] = under;
+            draft.add(Row::new(SCOPES, &numbers).bits(1))
+        })
+    };
+    let reactors =
+        |count: u64| (1..count).fold(smallest(), |draft, _| draft.add(Row::new(REACTORS, &[0; 8])));
+    let roots = |draft: Draft, count: u64| {
+        (1..count).fold(draft, |draft, reactor| {
+            let mut numbers = [0; 15];
+            numbers[1] = reactor;
+            draft.add(Row::new(SCOPES, &numbers)).set(REACTORS, reactor as usize, 2, reactor)
+        })
+    };
+    let physical = || with_routes(&[2, 3]);
+    let wide = |count| roots(reactors(count), count);
+    let mut wide_and_deep = wide(65);
+    for under in 64..73 {
+        let mut numbers = [0; 15];
+        numbers[0] = under;
+        wide_and_deep = wide_and_deep.add(Row::new(SCOPES, &numbers).bits(1));
+    }
+    vec![
+        with_routes(&[0, 1]).line(1).night("both halves in one station", "accepted 1 0"),
+        two(with_routes(&[1]), with_routes(&[0]), 1).night("in two stations", "accepted 2 0"),
+        with_routes(&[1]).line(1).night("the outbound half alone", "refused 26 0 3 1 1"),
+        with_routes(&[0]).line(1).night("the inbound half alone", "refused 26 0 3 1 0"),
+        physical().line(1).night("a physical pair", "refused 29 0 0"),
+        two(with_routes(&[0]), with_routes(&[3]), 1).night("halves of two domains", "refused 28 0 3 1 34"),
+        two(smallest().text("abcd"), physical(), 1)
+            .night("a physical pair of the second station", "refused 29 1 0"),
+        two(with_routes(&[0]), smallest(), 1).night("a lone half of the first", "refused 26 0 3 1 0"),
+        scopes(8).line(1).night("eight ancestors", "accepted 1 36"),
+        scopes(9).line(1).night("nine ancestors", "refused 30 0 9"),
+        scopes(9).line(1).federate("nine ancestors by day", "accepted 1 45"),
+        wide(64).line(1).night("64 reactors", "accepted 1 0"),
+        wide(65).line(1).night("65 reactors", "refused 31 0 65"),
+        wide_and_deep.line(1).night("65 reactors, and scopes under the last", "refused 31 0 65"),
+        two(scopes(9), wide(65), 1).night("too deep, then too many", "refused 30 0 9"),
+        two(physical(), scopes(9), 1).night("a physical route, then too deep", "refused 29 0 0"),
+        scopes(9).set(ENCLAVE, 0, 2, 0).line(1).night("an ordinary refusal first", "refused 23 2 0 0 0"),
     ]
 }
 

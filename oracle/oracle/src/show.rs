@@ -1,7 +1,7 @@
 //! A case record by record in words, with its answer.
 use crate::{one, sites, Done};
 use check::{answer, Answer};
-use pack::corpus::{Case, Kind, TALLY};
+use pack::corpus::{Case, Kind, NIGHT, TALLY};
 use pack::layout::{numbers, Shape, ACTIONS, BINDINGS, REACTIONS, ROUTES, TABLES};
 use pack::names::{direction_name, field_name, kind_name, refusal_of, table_name, Value};
 use pack::row::Row;
@@ -19,6 +19,7 @@ pub fn print(corpus: &str, number: &str) -> Done {
         return Ok(true);
     }
     let kind = match case.kind() {
+        _ if case.kind == NIGHT => "line (federate) at night",
         Some(Kind::Federate) => "line (federate)",
         _ => "station (enclave)",
     };

@@ -2,6 +2,7 @@
 //!
 //! Most refusals name their site by refusal, table and field. Where several places give the
 //! same numbers, or one test has several parts, the case's own rows tell them apart.
+use check::night::is_of_the_night;
 use check::owner::is_of_mode_asked;
 use check::{answer, rows, stations, Answer};
 use pack::corpus::{Case, Kind};
@@ -10,12 +11,12 @@ use pack::names::{direction_name, field_name, kind_name, table_name};
 use pack::packing;
 use pack::row::Row;
 
-/// The name of the site; none for an answer that is no refusal, and for that of a mode asked that is not there.
+/// The name of the site; none for an answer that is no refusal, for that of a mode asked that is not there, and for the night's own.
 pub fn of(case: &Case, answer: &Answer) -> Option<String> {
     let Answer::Refused(numbers) = answer else {
         return None;
     };
-    if case.mode().is_some() && is_of_mode_asked(numbers) {
+    if case.mode().is_some() && is_of_mode_asked(numbers) || is_of_the_night(numbers) {
         return None;
     }
     if let Err(fault) = packing::check(case, case.kind()?) {

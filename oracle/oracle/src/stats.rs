@@ -56,7 +56,7 @@ fn table(counts: &Counts) {
 }
 
 fn group(answer: &Answer, kind: u8) -> String {
-    let kind = ["station", "line"].get(kind as usize).unwrap_or(&"unknown");
+    let kind = ["station", "line", "line at night"].get(kind as usize).unwrap_or(&"unknown");
     match answer {
         Answer::Accepted { .. } => format!("accepted, {kind}"),
         Answer::Refused(numbers) => format!("refused {:02} {}", numbers[0], refusal_of(numbers[0]).name),

@@ -8,9 +8,10 @@ pub enum Kind {
     Federate,
 }
 
-/// The kinds of question: the check of a station, that of a line, the owner of a mode, and a tally.
+/// The kinds of question: the check of a station, that of a line, that of a line at night, the owner of a mode, and a tally.
 pub const STATION: u8 = 0;
 pub const LINE: u8 = 1;
+pub const NIGHT: u8 = 2;
 pub const OWNER: u8 = 6;
 pub const TALLY: u8 = 12;
 
@@ -20,7 +21,7 @@ pub const TALLY_HEAD: u64 = 28;
 /// How many bytes follow a question's parts, before the steps of a tally; none for a kind that is not known.
 fn rest_length(kind: u8) -> Option<u64> {
     match kind {
-        STATION | LINE => Some(0),
+        STATION | LINE | NIGHT => Some(0),
         OWNER => Some(4),
         TALLY => Some(TALLY_HEAD),
         _ => None,
@@ -50,7 +51,7 @@ impl Case {
     pub fn kind(&self) -> Option<Kind> {
         match self.kind {
             STATION | OWNER => Some(Kind::Enclave),
-            LINE => Some(Kind::Federate),
+            LINE | NIGHT => Some(Kind::Federate),
             _ => None,
         }
     }
