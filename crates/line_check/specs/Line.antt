@@ -1,7 +1,10 @@
 -- The line that the program prints, in bytes. Assumes nothing.
 use Rattle.std.specs.Prelude.{ℕ, zero, suc, List, [], ◌∷◌, ◌++◌, Result, Ok, Err, codes, decimal}
 use Rattle.federate.specs.Answer.{federate_answer}
+use Rattle.night.specs.Night.{night_answer}
 use Rattle.line_check.specs.declared.image.LineImage.{LineImage}
+use Rattle.line_check.specs.declared.line.Profile.{Profile}
+use Rattle.line_check.specs.declared.line.Profile.TheVariants.{Day, Night}
 use Rattle.line_check.specs.declared.files.FileError.{FileError}
 use Rattle.line_check.specs.declared.files.FileError.TheVariants.{NoFile, TooLong}
 use Rattle.line_check.specs.Files.{file_bytes}
@@ -25,8 +28,13 @@ answer_line [] = line (codes "refused") []
 answer_line (zero ∷ ns) = line (codes "accepted") ns
 answer_line (suc k ∷ ns) = line (codes "refused") (suc k ∷ ns)
 
+-- the answer of the check that is asked for
+abbrev pub profile_answer : Profile → List ℕ → List ℕ → List ℕ → List ℕ
+profile_answer Day = federate_answer
+profile_answer Night = night_answer
+
 -- the line for what was read
-abbrev pub file_line : Result LineImage FileError → List ℕ
-file_line (Err NoFile) = codes "no file\n"
-file_line (Err TooLong) = codes "too long\n"
-file_line (Ok image) = answer_line (federate_answer (file_bytes image.pack) (file_bytes image.batch) (file_bytes image.house))
+abbrev pub file_line : Profile → Result LineImage FileError → List ℕ
+file_line profile (Err NoFile) = codes "no file\n"
+file_line profile (Err TooLong) = codes "too long\n"
+file_line profile (Ok image) = answer_line (profile_answer profile (file_bytes image.pack) (file_bytes image.batch) (file_bytes image.house))

@@ -6,13 +6,15 @@ mod image;
 mod line;
 
 use files::{read_file, together};
+pub use line::Profile;
 use line::file_line;
 use std::io::Write;
 use std::{io, rt};
 
-// Reads the files of these names, and writes the line of their answer to standard output.
+// Reads the files of these names, and writes the line of their answer by that check to standard output.
 pub fn check_files<R: rt::Files + Print>(
     rt: &R,
+    profile: Profile,
     pack_name: &[u8],
     batch_name: &[u8],
     house_name: &[u8],
@@ -20,11 +22,11 @@ pub fn check_files<R: rt::Files + Print>(
     let pack = read_file(rt, pack_name);
     let batch = read_file(rt, batch_name);
     let house = read_file(rt, house_name);
-    let line = file_line(together(pack, batch, house));
+    let line = file_line(profile, together(pack, batch, house));
     io::writer(rt).write_all(line.as_bytes())
 }
 
 // The line image in the current directory.
-pub fn run<R: rt::Files + Print>(rt: &R) -> io::Result<()> {
-    check_files(rt, b"line.pack", b"batch.txt", b"house.txt")
+pub fn run<R: rt::Files + Print>(rt: &R, profile: Profile) -> io::Result<()> {
+    check_files(rt, profile, b"line.pack", b"batch.txt", b"house.txt")
 }

@@ -2,7 +2,7 @@
 ghost use Rattle.std.specs.Prelude.{◌≡◌, ◌+◌, ◌≤◌, ◌++◌, length};
 ghost use Rattle.arrayvec.specs.ArrayString.{array_string_len};
 ghost use Rattle.federate.specs.Answer.{federate_numbers};
-ghost use Rattle.line_check.specs.Line.{number_text, line, answer_line, file_line};
+ghost use Rattle.line_check.specs.Line.{number_text, line, answer_line, profile_answer, file_line};
 
 use crate::files::FileError;
 use crate::image::LineImage;
@@ -11,6 +11,14 @@ use arrayvec::ArrayString;
 use federate::FederateAccepted;
 use federate::check::check_federate;
 use itoa::Buffer;
+use night::check_federate_night;
+
+// Which check is asked for: the day's, or the stricter one of the night.
+#[derive(Clone, Copy, Debug, PartialEq, Eq)]
+pub enum Profile {
+    Day,
+    Night,
+}
 
 // Room for the longest line: a word of eight letters, eight numbers of twenty digits with a blank before each, and the line's end.
 pub type Line = ArrayString<177>;
@@ -57,12 +65,28 @@ fn answer_line(answer: Result<FederateAccepted, Refusal>) -> Line
     }
 }
 
+// The answer of the check that is asked for.
+fn profile_answer(
+    profile: Profile,
+    pack: &[u8],
+    batch: &[u8],
+    house: &[u8],
+) -> Result<FederateAccepted, Refusal>
+    ensures { federate_numbers result ≡ profile_answer profile pack.now batch.now house.now }
+{
+    match profile {
+        Profile::Day => check_federate(pack, batch, house),
+        Profile::Night => check_federate_night(pack, batch, house),
+    }
+}
+
 // The line for what was read.
-pub fn file_line(files: Result<LineImage, FileError>) -> Line
-    ensures { result.bytes ≡ file_line files }
+pub fn file_line(profile: Profile, files: Result<LineImage, FileError>) -> Line
+    ensures { result.bytes ≡ file_line profile files }
 {
     match files {
-        Ok(image) => answer_line(check_federate(
+        Ok(image) => answer_line(profile_answer(
+            profile,
             image.pack.bytes(),
             image.batch.bytes(),
             image.house.bytes(),

@@ -1,7 +1,7 @@
 // The program's situations, each by its own files: a line for each with what is tried, and the program's line.
 #![tactic(auto)]
 
-use line_check::check_files;
+use line_check::{Profile, check_files};
 use std::io;
 
 // What is tried, and the names of the pack, the batch text and the house text.
@@ -72,7 +72,8 @@ const SITUATIONS: [[&str; 4]; 16] = [
 fn main(rt: HostRuntime) -> io::Result<()> {
     for [name, pack, batch, house] in SITUATIONS {
         print!(rt; "{name}: ")?;
-        check_files(&rt, pack.as_bytes(), batch.as_bytes(), house.as_bytes())?;
+        let (pack, batch, house) = (pack.as_bytes(), batch.as_bytes(), house.as_bytes());
+        check_files(&rt, Profile::Day, pack, batch, house)?;
     }
     Ok(())
 }
