@@ -44,6 +44,17 @@ uint32_t check_enclave_image(const uint8_t *pack, size_t pack_len, const uint8_t
 uint32_t check_federate_image(const uint8_t *pack, size_t pack_len, const uint8_t *batch, size_t batch_len,
                               const uint8_t *house, size_t house_len, uint64_t *numbers);
 
+/* The stricter check of a line for the night, when nobody can plug in the other end.
+ *
+ * All that is said above holds of this call too. The answer is that of check_federate_image where that refuses; where it accepts, the same
+ * stations and links (result 3) if in every station there are at most 64 reactors, no scope has more than 8 ancestors and every route is
+ * logical, and every route half has its other half somewhere in the line. Else it is 31, 30 or 29 of the first station that breaks a rule,
+ * in this order, with the station's place from 0 and how many reactors it has, or its first such scope or route (result 3); and where all
+ * stations keep theirs, 26 of the first half without its other: the text bit, start and length of its boundary, and its direction (result 5).
+ * It sorts the routes a second time, and takes at most twice the time of check_federate_image. */
+uint32_t check_federate_image_night(const uint8_t *pack, size_t pack_len, const uint8_t *batch, size_t batch_len,
+                                    const uint8_t *house, size_t house_len, uint64_t *numbers);
+
 /* The reactor that a mode of an accepted station belongs to: the only one whose span of modes holds it, which is the one that the mode names.
  *
  * All that is said above holds of this call too. The answer: 0 and the reactor (result 2); or the station's refusal, as check_enclave_image gives

@@ -9,7 +9,7 @@
 #include "image_check.h"
 
 /* The kinds of question. */
-enum { STATION = 0, LINE = 1, OWNER = 6, TALLY = 12 };
+enum { STATION = 0, LINE = 1, NIGHT = 2, OWNER = 6, TALLY = 12 };
 
 static void die(const char *what)
 {
@@ -191,6 +191,8 @@ static int answer_case(const uint8_t *head, int null_if_empty)
         print_answer("accepted", numbers, check_enclave_image(pack, p, batch, b, house, h, numbers));
     else if (head[0] == LINE)
         print_answer("accepted", numbers, check_federate_image(pack, p, batch, b, house, h, numbers));
+    else if (head[0] == NIGHT)
+        print_answer("accepted", numbers, check_federate_image_night(pack, p, batch, b, house, h, numbers));
     else if (head[0] == OWNER)
         print_answer("owner", numbers, mode_owner_of_image(pack, p, batch, b, house, h, mode, numbers));
     else {

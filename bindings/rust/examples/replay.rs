@@ -1,5 +1,7 @@
 //! Answers a corpus on standard input as the program `replay` does (oracle/README.md has the format).
-use image_check::{check_enclave, check_federate, mode_owner, Fraction, Refusal, Tally};
+use image_check::{
+    check_enclave, check_federate, check_federate_night, mode_owner, Fraction, Refusal, Tally,
+};
 use std::io::{self, Read, Write};
 
 /// The line of a case of no known kind, which ends the run.
@@ -64,6 +66,7 @@ fn next(rest: &mut &[u8]) -> Option<String> {
     Some(match kind {
         0 => check_enclave(&pack, &batch, &house).to_string(),
         1 => check_federate(&pack, &batch, &house).to_string(),
+        2 => check_federate_night(&pack, &batch, &house).to_string(),
         6 => mode_owner(&pack, &batch, &house, number(rest)?).to_string(),
         12 => tally(rest)?,
         _ => UNKNOWN_KIND.to_string(),

@@ -124,6 +124,16 @@ extern "C" {
         numbers: *mut [u64; 8],
     ) -> u32;
 
+    fn check_federate_image_night(
+        pack: *const u8,
+        pack_len: usize,
+        batch: *const u8,
+        batch_len: usize,
+        house: *const u8,
+        house_len: usize,
+        numbers: *mut [u64; 8],
+    ) -> u32;
+
     fn mode_owner_of_image(
         pack: *const u8,
         pack_len: usize,
@@ -169,13 +179,24 @@ pub fn check_enclave(pack: &[u8], batch: &[u8], house: &[u8]) -> Answer {
     }
 }
 
-/// Checks a line's image.
-pub fn check_federate(pack: &[u8], batch: &[u8], house: &[u8]) -> Answer {
-    let refusal = numbers(check_federate_image, [pack, batch, house]);
+/// What a check of a line answers.
+fn line(check: Check, lent: [&[u8]; 3]) -> Answer {
+    let refusal = numbers(check, lent);
     match refusal.values {
         [0, enclaves, links, ..] => Answer::Federate { enclaves, links },
         _ => Answer::Refused(refusal),
     }
+}
+
+/// Checks a line's image.
+pub fn check_federate(pack: &[u8], batch: &[u8], house: &[u8]) -> Answer {
+    line(check_federate_image, [pack, batch, house])
+}
+
+/// Checks a line's image for the night: a yes of [`check_federate`] stands where the night's rules hold too, and else 31, 30, 29 or 26 says
+/// which does not.
+pub fn check_federate_night(pack: &[u8], batch: &[u8], house: &[u8]) -> Answer {
+    line(check_federate_image_night, [pack, batch, house])
 }
 
 /// The reactor that a mode of a station belongs to.

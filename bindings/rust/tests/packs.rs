@@ -1,5 +1,7 @@
 //! A few packs by hand, and large ones on a stack of `STACK` bytes.
-use image_check::{check_enclave, check_federate, mode_owner, Answer, Fraction, Owner, Tally, STACK};
+use image_check::{
+    check_enclave, check_federate, check_federate_night, mode_owner, Answer, Fraction, Owner, Tally, STACK,
+};
 
 /// A record: its table, its bytes 1 and 2, and the words from byte 4 on.
 fn record(table: u8, bits: [u8; 2], words: &[u32]) -> Vec<u8> {
@@ -227,6 +229,48 @@ fn deepest_line() {
 fn many_routes() {
     let pack = [federate(2), routed(0, 15000), routed(1, 15000)].concat();
     let answer = on_small_stack(move || check_federate(&pack, &routed_text(15000), b""));
+    assert_eq!(answer, Answer::Federate { enclaves: 2, links: 0 });
+}
+
+#[test]
+fn lines_at_night() {
+    let night = |pack: &[u8], text: &[u8]| check_federate_night(pack, text, b"");
+    let chain = |scopes| [federate(1), station(1, scopes)].concat();
+    assert_eq!(night(&chain(9), b"abf"), Answer::Federate { enclaves: 1, links: 36 });
+    assert_eq!(night(&chain(10), b"abf").to_string(), "refused 30 0 9");
+    let pair = [federate(2), routed(0, 2), routed(1, 2)].concat();
+    assert_eq!(night(&pair, &routed_text(2)), Answer::Federate { enclaves: 2, links: 0 });
+    let lone = [federate(2), routed(0, 2), routed(1, 1)].concat();
+    assert_eq!(check_federate(&lone, &routed_text(2), b""), Answer::Federate { enclaves: 2, links: 0 });
+    assert_eq!(night(&lone, &routed_text(2)).to_string(), "refused 26 0 7 3 0");
+    let wide = |reactors: u32| {
+        let reactor = |root| record(2, [0, 0], &[0, 0, root]);
+        let root = |reactor| record(7, [0, 0], &[0, reactor]);
+        let rows = (0..reactors).map(reactor).chain((0..reactors).map(root)).collect::<Vec<_>>().concat();
+        [federate(1), record(1, [0, 0], &[0, 1, 1]), rows, record(24, [0, 0], &[1, 1])].concat()
+    };
+    assert_eq!(night(&wide(64), b"abf"), Answer::Federate { enclaves: 1, links: 0 });
+    assert_eq!(night(&wide(65), b"abf").to_string(), "refused 31 0 65");
+    let mut physical = [federate(1), routed(0, 1)].concat();
+    let route = physical.len() - 3 * 64;
+    physical[route + 2] = 2;
+    assert_eq!(night(&physical, &routed_text(1)).to_string(), "refused 29 0 0");
+    assert_eq!(night(&[federate(1), station(0, 10)].concat(), b"abf").to_string(), "refused 23 2 0 0 0");
+    assert_eq!(night(b"", b"").to_string(), "refused 1");
+}
+
+/// The deepest chain of parents, which the night refuses at its tenth scope.
+#[test]
+fn deepest_line_at_night() {
+    let pack = [federate(1), station(1, 65532)].concat();
+    let answer = on_small_stack(move || check_federate_night(&pack, b"abf", b""));
+    assert_eq!(answer.to_string(), "refused 30 0 9");
+}
+
+#[test]
+fn many_routes_at_night() {
+    let pack = [federate(2), routed(0, 15000), routed(1, 15000)].concat();
+    let answer = on_small_stack(move || check_federate_night(&pack, &routed_text(15000), b""));
     assert_eq!(answer, Answer::Federate { enclaves: 2, links: 0 });
 }
 

@@ -5,14 +5,17 @@ pub mod tallies;
 
 ghost use Rattle.std.specs.Prelude.{◌≤◌, length};
 ghost use Rattle.enclave.specs.Answer.{enclave_answer};
-ghost use Rattle.federate.specs.Answer.{federate_answer};
+ghost use Rattle.federate.specs.Answer.{federate_numbers, federate_answer};
+ghost use Rattle.night.specs.Night.{night_answer};
 ghost use Rattle.mode_owner.specs.Owner.{owner_answer};
 ghost use Rattle.image_check.specs.Answered.{Answered};
 
+use answers::Refusal;
 use enclave::check::check_enclave;
 use federate::FederateAccepted;
 use federate::check::check_federate;
 use mode_owner::mode_owner;
+use night::check_federate_night;
 
 // Writes the numbers of an answer into those that the host lends, zeros after them, and answers how many it has.
 // Numbers and a count: the host is C, which has no slices and no enums with fields.
@@ -40,6 +43,16 @@ pub fn check_enclave_image<'a>(
     }
 }
 
+// Writes a line's answer: 0, the stations and the links, or the refusal's numbers.
+fn put_federate(answer: Result<FederateAccepted, Refusal>, numbers: &mut [u64; 8]) -> u32
+    ensures { Answered (federate_numbers answer) result numbers.new }
+{
+    match answer {
+        Ok(FederateAccepted { enclaves, links }) => put(&[0, u64::from(enclaves), links], numbers),
+        Err(refusal) => put(refusal.numbers().as_slice(), numbers),
+    }
+}
+
 // The answer for a federate pack and its two texts: 0, the stations and the links, or the refusal's numbers. The result is how many of `numbers` hold it.
 pub fn check_federate_image<'a>(
     pack: &'a [u8],
@@ -49,10 +62,19 @@ pub fn check_federate_image<'a>(
 ) -> u32
     ensures { Answered (federate_answer pack.now batch.now house.now) result numbers.new }
 {
-    match check_federate(pack, batch, house) {
-        Ok(FederateAccepted { enclaves, links }) => put(&[0, u64::from(enclaves), links], numbers),
-        Err(refusal) => put(refusal.numbers().as_slice(), numbers),
-    }
+    put_federate(check_federate(pack, batch, house), numbers)
+}
+
+// The same at night: a day's yes stands where the night's rules hold, and else the first fault against them is the answer.
+pub fn check_federate_image_night<'a>(
+    pack: &'a [u8],
+    batch: &'a [u8],
+    house: &'a [u8],
+    numbers: &mut [u64; 8],
+) -> u32
+    ensures { Answered (night_answer pack.now batch.now house.now) result numbers.new }
+{
+    put_federate(check_federate_night(pack, batch, house), numbers)
 }
 
 // The reactor that a mode of an enclave pack belongs to: 0 and the reactor, or the refusal's numbers. The result is how many of `numbers` hold it.

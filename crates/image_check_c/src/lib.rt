@@ -4,6 +4,7 @@
 ghost use Rattle.std.specs.Prelude.{◌≡◌};
 ghost use Rattle.enclave.specs.Answer.{enclave_answer};
 ghost use Rattle.federate.specs.Answer.{federate_answer};
+ghost use Rattle.night.specs.Night.{night_answer};
 ghost use Rattle.mode_owner.specs.Owner.{owner_answer};
 ghost use Rattle.tally.specs.declared.LineResult.TheVariants.{Accepted, Refused};
 ghost use Rattle.tally.specs.Tally.{add_answer, added};
@@ -37,6 +38,19 @@ pub extern "C" fn check_federate_image<'a>(
     ensures { Answered (federate_answer pack.now batch.now house.now) result numbers.new }
 {
     image_check::check_federate_image(pack, batch, house, numbers)
+}
+
+// The answer for a federate pack and its two texts at night; the result is how many of `numbers` hold it.
+#[unsafe(no_mangle)]
+pub extern "C" fn check_federate_image_night<'a>(
+    pack: &'a [u8],
+    batch: &'a [u8],
+    house: &'a [u8],
+    numbers: &mut [u64; 8],
+) -> u32
+    ensures { Answered (night_answer pack.now batch.now house.now) result numbers.new }
+{
+    image_check::check_federate_image_night(pack, batch, house, numbers)
 }
 
 // The reactor that a mode of an enclave pack belongs to; the result is how many of `numbers` hold the answer.
