@@ -1,8 +1,9 @@
-// The papers' lines tried by hand, and document 01's misreadings: packs from rows, a line for each with the check's answer, and tallies.
+// The papers' lines tried by hand, and document 01's misreadings: packs from rows, a line for each with the check's answer; lines at night, and tallies.
 #![tactic(auto)]
 
 mod enclaves;
 mod federates;
+mod nights;
 mod owners;
 mod parts;
 mod rows;
@@ -14,6 +15,7 @@ use anyhow::Result;
 fn main(rt: HostRuntime) -> Result<()> {
     enclaves::cases(&rt)?;
     federates::cases(&rt)?;
+    nights::cases(&rt)?;
     owners::cases(&rt)?;
     tallies::cases(&rt)
 }

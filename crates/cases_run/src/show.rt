@@ -1,10 +1,12 @@
 // A line for each case: its name, and the answer of the check for its pack. The runtime goes beside a name, as it goes to all that prints.
+use answers::Refusal;
 use anyhow::Result;
 use cases::records::{Pack, RecordBytes, Recorded, put};
 use enclave::check::check_enclave;
 use federate::FederateAccepted;
 use federate::check::check_federate;
 use mode_owner::mode_owner;
+use night::check_federate_night;
 use schema::rows::FederateImage;
 use std::io;
 use std::io::Write;
@@ -50,7 +52,30 @@ pub fn show_owner(
     Ok(())
 }
 
-// The answer for a line: its own record, and the records of each station.
+// The pack of a line: its own record, and the records of each station.
+fn line_pack(federate: FederateImage, stations: &[&[RecordBytes]]) -> Result<Pack> {
+    let mut pack = Pack::new();
+    put(&mut pack, &[federate.record()])?;
+    for station in stations {
+        put(&mut pack, station)?;
+    }
+    Ok(pack)
+}
+
+fn show_line(
+    rt: &HostRuntime,
+    name: &[u8],
+    answer: Result<FederateAccepted, Refusal>,
+) -> Result<()> {
+    show_name(rt, name)?;
+    match answer {
+        Ok(FederateAccepted { enclaves, links }) => println!(rt; "accepted {enclaves} {links}")?,
+        Err(refusal) => println!(rt; "refused {refusal}")?,
+    }
+    Ok(())
+}
+
+// The answer for a line.
 pub fn show_federate(
     rt: &HostRuntime,
     name: &[u8],
@@ -58,15 +83,22 @@ pub fn show_federate(
     stations: &[&[RecordBytes]],
     batch: &[u8],
 ) -> Result<()> {
-    let mut pack = Pack::new();
-    put(&mut pack, &[federate.record()])?;
-    for station in stations {
-        put(&mut pack, station)?;
-    }
-    show_name(rt, name)?;
-    match check_federate(pack.as_slice(), batch, b"") {
-        Ok(FederateAccepted { enclaves, links }) => println!(rt; "accepted {enclaves} {links}")?,
-        Err(refusal) => println!(rt; "refused {refusal}")?,
-    }
-    Ok(())
+    let pack = line_pack(federate, stations)?;
+    show_line(rt, name, check_federate(pack.as_slice(), batch, b""))
+}
+
+// The answer at night for the bytes of a line, and for its records.
+pub fn show_night_bytes(rt: &HostRuntime, name: &[u8], pack: &[u8], batch: &[u8]) -> Result<()> {
+    show_line(rt, name, check_federate_night(pack, batch, b""))
+}
+
+pub fn show_night(
+    rt: &HostRuntime,
+    name: &[u8],
+    federate: FederateImage,
+    stations: &[&[RecordBytes]],
+    batch: &[u8],
+) -> Result<()> {
+    let pack = line_pack(federate, stations)?;
+    show_night_bytes(rt, name, pack.as_slice(), batch)
 }
