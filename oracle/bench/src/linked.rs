@@ -1,7 +1,7 @@
 //! This check by its binding for Rust, and its two tests of a text from their static library.
 use check::Answer;
-use image_check::{check_enclave, check_federate};
-use pack::corpus::{Case, Kind};
+use image_check::{check_enclave, check_federate, check_federate_night};
+use pack::corpus::{Case, Kind, NIGHT};
 
 extern "C" {
     fn is_utf8_text(text: *const u8, len: usize) -> bool;
@@ -11,6 +11,7 @@ extern "C" {
 /// The answer, as a host gets it.
 pub fn run(case: &Case) -> image_check::Answer {
     let check = match case.kind() {
+        _ if case.kind == NIGHT => check_federate_night,
         Some(Kind::Federate) => check_federate,
         _ => check_enclave,
     };

@@ -8,6 +8,7 @@ mod linked;
 mod long;
 mod measure;
 mod names;
+mod night;
 mod packs;
 mod refused;
 mod routes;
@@ -28,6 +29,7 @@ use pack::rng;
 use std::process::ExitCode;
 
 const TEXTS: &str = "texts";
+const NIGHT: &str = "night";
 
 struct Options {
     names: Vec<String>,
@@ -38,7 +40,9 @@ impl Options {
     fn read() -> Option<Self> {
         let (options, names): (Vec<_>, Vec<_>) =
             std::env::args().skip(1).partition(|word| word.starts_with('-'));
-        let known = |name: &String| name == TEXTS || FAMILIES.iter().any(|family| family.name == *name);
+        let known = |name: &String| {
+            [TEXTS, NIGHT].contains(&name.as_str()) || FAMILIES.iter().any(|family| family.name == *name)
+        };
         let understood = options.iter().all(|option| option == "--quick") && names.iter().all(known);
         understood.then_some(Options { names, quick: !options.is_empty() })
     }
@@ -57,7 +61,7 @@ impl Options {
 
 fn main() -> ExitCode {
     let Some(options) = Options::read() else {
-        eprintln!("bench [FAMILY..] [--quick], a family being {TEXTS} or one of:");
+        eprintln!("bench [FAMILY..] [--quick], a family being {NIGHT}, {TEXTS} or one of:");
         FAMILIES.iter().for_each(|family| eprintln!("  {:<21} {}", family.name, family.about));
         return ExitCode::from(2);
     };
@@ -68,6 +72,9 @@ fn main() -> ExitCode {
             true => table::run(family, &family.sizes[..3], options.effort()),
             false => table::run(family, family.sizes, options.effort()),
         };
+    }
+    if options.takes(NIGHT) {
+        agreed &= night::run(options.quick, options.effort());
     }
     if options.takes(TEXTS) {
         agreed &= texts::run(options.effort());

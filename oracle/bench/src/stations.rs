@@ -2,6 +2,7 @@
 use crate::names::{place, texts};
 use crate::rows::{binding, enclave, federate, reactor, scope, STATE};
 use crate::sample::{links, stations, Sample};
+use check::Answer;
 use pack::row::Row;
 
 /// The smallest station, with the name of this number.
@@ -29,6 +30,16 @@ pub fn chain_to_first(records: usize) -> Sample {
 /// Scope i is below scope i + 1.
 pub fn chain_to_last(records: usize) -> Sample {
     chain(records, |at, count| (at + 1 < count).then_some(at + 1))
+}
+
+/// One station in a line, whose scopes stand in chains of nine, each below the one before.
+pub fn deep_scopes(records: usize) -> Sample {
+    let count = records as u64 - 4;
+    let mut rows = vec![federate(place(0), 1), enclave(place(0), 1, 0), reactor()];
+    rows.extend((0..count).map(|at| scope((at % 9 > 0).then(|| at - 1))));
+    rows.push(binding(place(0), STATE));
+    let links = (0..count).map(|at| at % 9).sum();
+    Sample::federate(&rows, texts(1), Answer::Accepted { stations: Some(1), links })
 }
 
 fn chain(records: usize, parent: fn(u64, u64) -> Option<u64>) -> Sample {
