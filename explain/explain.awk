@@ -83,6 +83,7 @@ function refused(n) {
   if (n <= 25) return of_reactors_and_bindings(n)
   if (n <= 28) return of_routes(n)
   if (n <= 31) return of_the_night(n)
+  if (n <= 37) return of_changes(n)
   return n <= 39 ? of_deadlines(n) : of_tallies(n)
 }
 
@@ -143,6 +144,14 @@ function of_the_night(n) {
   if (n == 29) return "routes[" $4 "] of station " $3 " is physical; at night every route is logical."
   if (n == 30) return "scopes[" $4 "] of station " $3 " has more than 8 ancestors, the most at night."
   if (n == 31) return "Station " $3 " has " counted($4, "reactor") "; at night a station has at most 64."
+  return ""
+}
+
+function of_changes(n) {
+  if (!has(0)) return ""
+  if (n == 35) return "The pack has no record of that number."
+  if (n == 36) return "The record to be put in is not 64 bytes long."
+  if (n == 37) return "The record to be put in is of another table than the record in its place."
   return ""
 }
 
