@@ -1,0 +1,4 @@
+pub mod Steps
+pub mod After
+pub mod Bytes
+pub mod Promises
