@@ -1,7 +1,8 @@
 // One answer line for each case of a corpus.
 use crate::answer::answer_of;
-use crate::input::{Asked, ReadError, Room, read_case};
-use crate::steps::{TallyCase, read_step, step_answer};
+use crate::changes::{ChangeCase, change_answer, read_change};
+use crate::input::{CHANGE, PREVIEW, ReadError, Room, TALLY, read_kind, read_parts};
+use crate::steps::{TallyCase, read_step, read_tally, step_answer};
 use arrayvec::ArrayVec;
 use std::io;
 use std::io::{BufRead, Write};
@@ -9,7 +10,7 @@ use std::io::{BufRead, Write};
 // Lines that are not written yet.
 type Lines = ArrayVec<u8, 8192>;
 
-// Room for any line of an image's case, the longest of which has 176 bytes, for any step's answer, and for the end of a tally's line.
+// Room for any line of an image's case, the longest of which has 176 bytes, for the digits of a record, for any step's answer, and for the end of a line.
 const LINE: usize = 192;
 
 fn flush<W: Write>(output: &mut W, lines: &mut Lines) -> io::Result<()> {
@@ -47,11 +48,51 @@ fn add_tally<W: Write>(output: &mut W, lines: &mut Lines, case: TallyCase) -> io
     )
 }
 
-fn add_line<W: Write>(output: &mut W, lines: &mut Lines, asked: Asked) -> io::Result<()> {
-    match asked {
-        Asked::Image(case) => writeln!(lines, "{}", answer_of(case)),
-        Asked::Tally(case) => add_tally(output, lines, case),
+// Adds bytes as they are after a call, in hexadecimal digits. They may be longer than the lines have room for, so that these are written between records.
+fn add_bytes<W: Write>(output: &mut W, lines: &mut Lines, bytes: &[u8]) -> io::Result<()> {
+    let before = if bytes.is_empty() { " | -" } else { " | " };
+    write!(lines, "{before}")?;
+    for record in bytes.chunks(64) {
+        make_room(output, lines)?;
+        for byte in record {
+            write!(lines, "{byte:02x}")?;
+        }
     }
+    make_room(output, lines)
+}
+
+// Adds the line of a record that is changed or tried: the answer, and the pack as it then is.
+fn add_change<W: Write>(output: &mut W, lines: &mut Lines, case: ChangeCase) -> io::Result<()> {
+    let mut case = case;
+    let answer = change_answer(&mut case);
+    write!(lines, "{answer}")?;
+    add_bytes(output, lines, case.pack)?;
+    writeln!(lines)
+}
+
+// Takes what follows the first byte of a case of that kind, and adds its line.
+fn answer_case<R: BufRead, W: Write>(
+    kind: u8,
+    input: &mut R,
+    room: &mut Room,
+    output: &mut W,
+    lines: &mut Lines,
+) -> Result<(), ReadError> {
+    let added = match kind {
+        CHANGE | PREVIEW => {
+            let case = read_change(kind == CHANGE, input, room)?;
+            add_change(output, lines, case)
+        }
+        TALLY => {
+            let case = read_tally(input, room.pack)?;
+            add_tally(output, lines, case)
+        }
+        _ => {
+            let case = read_parts(kind, input, room)?;
+            writeln!(lines, "{}", answer_of(case))
+        }
+    };
+    added.map_err(ReadError::Failed)
 }
 
 // Adds the line of the next case, and says whether one may follow.
@@ -61,12 +102,11 @@ fn answer_next<R: BufRead, W: Write>(
     output: &mut W,
     lines: &mut Lines,
 ) -> io::Result<bool> {
-    match read_case(input, room) {
-        Ok(Some(asked)) => {
-            add_line(output, lines, asked)?;
-            Ok(true)
-        }
-        Ok(None) => Ok(false),
+    let Some(kind) = read_kind(input)? else {
+        return Ok(false);
+    };
+    match answer_case(kind, input, room, output, lines) {
+        Ok(()) => Ok(true),
         Err(ReadError::CutOff) => {
             writeln!(lines, "cut off")?;
             Ok(false)

@@ -1,5 +1,6 @@
 // Reading a corpus, case by case. Its numbers go high byte first.
-use crate::steps::{TallyCase, read_tally};
+ghost use Rattle.std.specs.Prelude.{◌≤◌, length, IfOk};
+
 use std::io;
 use std::io::{BufRead, ErrorKind, Read};
 
@@ -21,13 +22,6 @@ pub struct Case<'a> {
     pub house: &'a [u8],
 }
 
-// What a case asks: of an image, or of a tally.
-#[derive(Clone, Copy)]
-pub enum Asked<'a> {
-    Image(Case<'a>),
-    Tally(TallyCase<'a>),
-}
-
 // The corpus's numbers for the kinds of question.
 const ENCLAVE: u8 = 0;
 
@@ -37,7 +31,11 @@ const FEDERATE_NIGHT: u8 = 2;
 
 const MODE_OWNER: u8 = 6;
 
-const TALLY: u8 = 12;
+pub const CHANGE: u8 = 8;
+
+pub const PREVIEW: u8 = 9;
+
+pub const TALLY: u8 = 12;
 
 // Why a case is not read: it is cut off, its first byte is no kind of question or one of its steps is none, or its reading failed.
 #[derive(Debug, Drop)]
@@ -77,12 +75,24 @@ pub fn pass_over<R: Read>(input: &mut R, len: usize) -> Result<(), ReadError> {
     Ok(())
 }
 
-// Takes `len` bytes, and keeps as many as `room` has room for.
-fn take<'a, R: Read>(input: &mut R, room: &'a mut [u8], len: u32) -> Result<&'a [u8], ReadError> {
+// Takes `len` bytes, keeps as many as `room` has room for, and answers how many.
+pub fn keep<R: Read>(input: &mut R, room: &mut [u8], len: u32) -> Result<usize, ReadError>
+    ensures { IfOk result (λ n. n ≤ length room.new) }
+{
     let len = len as usize;
     let kept = len.min(room.len());
     input.read_exact(&mut room[..kept])?;
     pass_over(input, len - kept)?;
+    Ok(kept)
+}
+
+// Takes `len` bytes, and lends those that are kept.
+pub fn take<'a, R: Read>(
+    input: &mut R,
+    room: &'a mut [u8],
+    len: u32,
+) -> Result<&'a [u8], ReadError> {
+    let kept = keep(input, room, len)?;
     Ok(&room[..kept])
 }
 
@@ -92,6 +102,7 @@ pub struct Room<'a> {
     pub pack: &'a mut [u8],
     pub batch: &'a mut [u8],
     pub house: &'a mut [u8],
+    pub row: &'a mut [u8],
 }
 
 // Takes what follows the parts of a question of that kind.
@@ -108,7 +119,7 @@ fn read_question<R: Read>(kind: u8, input: &mut R) -> Result<Question, ReadError
 }
 
 // Takes the parts of a case of that kind, and its question.
-fn read_parts<'a, R: Read>(
+pub fn read_parts<'a, R: Read>(
     kind: u8,
     input: &mut R,
     room: &'a mut Room,
@@ -116,7 +127,12 @@ fn read_parts<'a, R: Read>(
     let pack_len = read_u32(input)?;
     let batch_len = read_u32(input)?;
     let house_len = read_u32(input)?;
-    let Room { pack, batch, house } = room;
+    let Room {
+        pack,
+        batch,
+        house,
+        ..
+    } = room;
     let pack = take(input, pack, pack_len)?;
     let batch = take(input, batch, batch_len)?;
     let house = take(input, house, house_len)?;
@@ -129,20 +145,12 @@ fn read_parts<'a, R: Read>(
     })
 }
 
-// Takes the next case, if there is one.
-pub fn read_case<'a, R: BufRead>(
-    input: &mut R,
-    room: &'a mut Room,
-) -> Result<Option<Asked<'a>>, ReadError> {
-    if input.fill_buf().map_err(ReadError::Failed)?.is_empty() {
+// Takes the first byte of the next case, its kind, if there is one.
+pub fn read_kind<R: BufRead>(input: &mut R) -> io::Result<Option<u8>> {
+    if input.fill_buf()?.is_empty() {
         return Ok(None);
     }
     let mut kind = [0u8; 1];
-    input.read_exact(&mut kind).map_err(ReadError::Failed)?;
-    if kind[0] == TALLY {
-        let case = read_tally(input, room.pack)?;
-        return Ok(Some(Asked::Tally(case)));
-    }
-    let case = read_parts(kind[0], input, room)?;
-    Ok(Some(Asked::Image(case)))
+    input.read_exact(&mut kind)?;
+    Ok(Some(kind[0]))
 }

@@ -2,6 +2,7 @@
 #![tactic(auto)]
 
 mod answer;
+mod changes;
 mod corpus;
 mod input;
 mod steps;
@@ -10,6 +11,9 @@ ghost use Rattle.std.specs.Prelude.{◌≤◌};
 
 use input::Room;
 use std::io;
+
+// Room for a row, and a byte more: a longer one is refused whatever its bytes are.
+const ROW: usize = 65;
 
 // With room for so many bytes of a pack and of each text.
 fn answer_with<const PACK: usize, const TEXT: usize>(rt: &HostRuntime) -> io::Result<()>
@@ -20,6 +24,7 @@ fn answer_with<const PACK: usize, const TEXT: usize>(rt: &HostRuntime) -> io::Re
         pack: &mut [0u8; PACK],
         batch: &mut [0u8; TEXT],
         house: &mut [0u8; TEXT],
+        row: &mut [0u8; ROW],
     };
     corpus::answer_all(&mut rt.reader(), &mut room, &mut io::writer(rt))
 }
