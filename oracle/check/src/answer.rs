@@ -1,4 +1,5 @@
 //! One answer and its line.
+use crate::change::Changed;
 use crate::tally::Tallied;
 use std::fmt;
 
@@ -10,6 +11,8 @@ pub enum Answer {
     Refused(Vec<u64>),
     /// The reactor that the mode asked belongs to.
     Owner(u64),
+    /// What changing or trying a record gave.
+    Change(Changed),
     /// What each step of a tally gave.
     Tally(Tallied),
 }
@@ -26,6 +29,7 @@ impl fmt::Display for Answer {
                 numbers.iter().try_for_each(|number| write!(to, " {number}"))
             }
             Answer::Owner(reactor) => write!(to, "owner {reactor}"),
+            Answer::Change(changed) => changed.fmt(to),
             Answer::Tally(tallied) => tallied.fmt(to),
         }
     }

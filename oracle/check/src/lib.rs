@@ -1,5 +1,6 @@
-//! A case through the packing rules, boomerang's check and that of the deadlines, as one answer; or a tally.
+//! A case through the packing rules, boomerang's check and that of the deadlines, as one answer; a record changed; or a tally.
 mod answer;
+pub mod change;
 mod deadlines;
 mod enclave;
 mod identities;
@@ -31,6 +32,9 @@ use pack::row::Row;
 pub fn answer(case: &Case) -> Answer {
     if case.kind == TALLY {
         return Answer::Tally(tally::of(&case.rest));
+    }
+    if let Some((number, row)) = case.change() {
+        return Answer::Change(change::of(case, number, row));
     }
     let kind = case.kind().expect("a kind that a corpus has");
     let answer = match packing::check(case, kind) {

@@ -80,7 +80,7 @@ fn exchange(rng: &mut Rng, rows: &mut [Row], at: usize) {
 }
 
 /// Turns a bit of byte 1 or another value of byte 2; numbers that appear are small.
-fn change_bits(rng: &mut Rng, rows: &mut [Row], at: usize) {
+pub fn change_bits(rng: &mut Rng, rows: &mut [Row], at: usize) {
     let row = &mut rows[at];
     let before: Vec<bool> = (0..row.numbers.len()).map(|number| row.present(number)).collect();
     if rng.chance(1, 2) {
@@ -111,7 +111,7 @@ fn change_scope(rng: &mut Rng, rows: &mut [Row], at: usize) {
     }
 }
 
-fn change_number(rng: &mut Rng, rows: &mut [Row], at: usize, texts: &mut Texts) {
+pub fn change_number(rng: &mut Rng, rows: &mut [Row], at: usize, texts: &mut Texts) {
     let layout = numbers(rows[at].table);
     let mut places: Vec<usize> = (0..layout.len()).filter(|number| rows[at].present(*number)).collect();
     let is_key = |place: &usize| layout[*place].field.shape == Shape::W && layout[*place].field.to.is_some();

@@ -1,4 +1,5 @@
 //! `gen SEED COUNT OUT [--from N] [--only MIX]`: a corpus of generated cases.
+mod change;
 mod damage;
 mod deadlines;
 mod deep;
@@ -32,7 +33,7 @@ fn main() -> ExitCode {
         let styles: Vec<&str> = STYLES.iter().map(|style| style.name).collect();
         eprintln!("gen SEED COUNT OUT [--from N] [--only MIX]");
         eprintln!(
-            "MIX: all, station, line, packing, deadlines, large, deep, night, owner, tally, {}",
+            "MIX: all, station, line, packing, deadlines, large, deep, night, owner, change, tally, {}",
             styles.join(", ")
         );
         return ExitCode::from(2);

@@ -6,7 +6,7 @@ use crate::line::{grown, Extent};
 use crate::plan::{Size, SMALL};
 use crate::rng::Rng;
 use crate::texts::Texts;
-use crate::{faults, identities, night, tally, tiny};
+use crate::{change, faults, identities, night, tally, tiny};
 use pack::corpus::{Case, Kind, NIGHT, OWNER};
 use pack::layout::{MODES, ROUTES};
 use pack::row::{pack, Row};
@@ -54,7 +54,7 @@ pub struct Mix {
 }
 
 impl Mix {
-    /// The mix with this name: a group, a style, `large`, `deep`, `night`, `owner` or `tally`.
+    /// The mix with this name: a group, a style, `large`, `deep`, `night`, `owner`, `change` or `tally`.
     pub fn named(name: &str) -> Option<Self> {
         let found = GROUPS.iter().find(|group| group.0 == name);
         let (names, kind) = found.map_or((vec![name], None), |group| (group.1.to_vec(), group.2));
@@ -64,13 +64,14 @@ impl Mix {
             "deep" => Some(deep_image),
             "night" => Some(at_night),
             "owner" => Some(owner),
+            "change" => Some(|rng, _| change::case(rng)),
             "tally" => Some(|rng, _| tally::case(rng)),
             _ => None,
         };
         let rarities = name == "all" || name == "packing";
         let with_deadlines = match name {
             "deadlines" => 1000,
-            "deep" | "tally" => 0,
+            "deep" | "change" | "tally" => 0,
             _ => 460,
         };
         let mix = Mix { styles, kind, rarities, special, with_deadlines };

@@ -41,10 +41,15 @@ fn different(number: u64, ours: &str, theirs: &str) -> Done {
     Ok(false)
 }
 
-/// `accepted`, or `refused` with its number; of a tally, which refusals it met.
+/// `accepted`, or `refused` with its number, and whether bytes follow; of a tally, which refusals it met.
 fn group(line: &str) -> String {
-    if line.contains('|') {
-        return tally(line);
+    if let Some((before, after)) = line.rsplit_once("| ") {
+        let bytes = !after.contains(' ');
+        return if bytes {
+            format!("{}, with the bytes after it", group(before.trim_end()))
+        } else {
+            tally(line)
+        };
     }
     let mut words = line.split(' ');
     match (words.next(), words.next()) {

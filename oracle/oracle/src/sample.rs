@@ -31,6 +31,7 @@ fn without_site(case: &Case, answer: &Answer) -> String {
     match answer {
         Answer::Accepted { .. } => format!("accepted {}", case.kind),
         Answer::Owner(_) => "owner".into(),
+        Answer::Change(_) => "change".into(),
         Answer::Tally(_) => "tally".into(),
         Answer::Refused(numbers) => format!("refused {}", numbers[0]),
     }

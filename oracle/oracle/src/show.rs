@@ -1,7 +1,7 @@
 //! A case record by record in words, with its answer.
 use crate::{one, sites, Done};
 use check::{answer, Answer};
-use pack::corpus::{Case, Kind, NIGHT, TALLY};
+use pack::corpus::{Case, Kind, NIGHT, CHANGE, TALLY};
 use pack::layout::{numbers, Shape, ACTIONS, BINDINGS, REACTIONS, ROUTES, TABLES};
 use pack::names::{direction_name, field_name, kind_name, refusal_of, table_name, Value};
 use pack::row::Row;
@@ -24,19 +24,32 @@ pub fn print(corpus: &str, number: &str) -> Done {
         _ => "station (enclave)",
     };
     let asked = case.mode().map_or(String::new(), |mode| format!(", the owner of mode {mode}"));
+    let asked = case.change().map_or(asked, |(number, row)| changed(&case, number, row));
     println!("case {number}: {kind}{asked}, {} bytes of pack", case.pack.len());
     println!("batch, {} bytes: {}", case.batch.len(), shown(&case.batch));
     println!("house, {} bytes: {}", case.house.len(), shown(&case.house));
     records(&case);
     let answer = answer(&case);
     println!("answer: {answer}");
-    if let Answer::Refused(numbers) = &answer {
+    let refusal = match &answer {
+        Answer::Change(changed) => &*changed.answer,
+        other => other,
+    };
+    if let Answer::Refused(numbers) = refusal {
         println!("  {}", in_words(numbers));
     }
     if let Some(site) = sites::of(&case, &answer) {
         println!("  site: {site}");
     }
     Ok(true)
+}
+
+/// Which record is changed or tried, and the row.
+fn changed(case: &Case, number: u32, row: &[u8]) -> String {
+    let known = row.len() == RECORD && TABLES.len() > row[0] as usize;
+    let shown = if known { words(case, row) } else { format!("{row:02x?}") };
+    let done = if case.kind == CHANGE { "changed" } else { "tried" };
+    format!(", record {number} {done} by {} bytes: {shown};", row.len())
 }
 
 /// A tally by its numbers, its steps and what each of them gave.

@@ -1,6 +1,7 @@
 //! How often each refusal, each table and field, and each site was met.
 use crate::{deadlines, for_each, site_list, sites, Done};
 use check::{answer, Answer};
+use pack::corpus::{CHANGE, LINE};
 use pack::names::{direction_name, field_name, kind_name, refusal_of, table_name, Value};
 use std::collections::BTreeMap;
 
@@ -56,12 +57,21 @@ fn table(counts: &Counts) {
 }
 
 fn group(answer: &Answer, kind: u8) -> String {
-    let kind = ["station", "line", "line at night"].get(kind as usize).unwrap_or(&"unknown");
+    let name = ["station", "line", "line at night"].get(kind as usize).unwrap_or(&"unknown");
     match answer {
-        Answer::Accepted { .. } => format!("accepted, {kind}"),
+        Answer::Accepted { .. } => format!("accepted, {name}"),
         Answer::Refused(numbers) => format!("refused {:02} {}", numbers[0], refusal_of(numbers[0]).name),
         Answer::Owner(_) => "owner of a mode".into(),
+        Answer::Change(changed) => format!("{}: {}", change_name(kind), group(&changed.answer, LINE)),
         Answer::Tally(_) => "tally".into(),
+    }
+}
+
+fn change_name(kind: u8) -> &'static str {
+    if kind == CHANGE {
+        "record changed"
+    } else {
+        "record tried"
     }
 }
 

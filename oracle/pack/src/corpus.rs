@@ -8,21 +8,25 @@ pub enum Kind {
     Federate,
 }
 
-/// The kinds of question: the check of a station, that of a line, that of a line at night, the owner of a mode, and a tally.
+/// The kinds of question: the check of a station, that of a line, that of a line at night, the owner of a mode, a record of a line changed or tried first,
+/// and a tally.
 pub const STATION: u8 = 0;
 pub const LINE: u8 = 1;
 pub const NIGHT: u8 = 2;
 pub const OWNER: u8 = 6;
+pub const CHANGE: u8 = 8;
+pub const PREVIEW: u8 = 9;
 pub const TALLY: u8 = 12;
 
 /// The bytes of a tally's three numbers and of how many steps it has.
 pub const TALLY_HEAD: u64 = 28;
 
-/// How many bytes follow a question's parts, before the steps of a tally; none for a kind that is not known.
+/// How many bytes follow a question's parts, before the steps of a tally and the row of a change; none for a kind that is not known.
 fn rest_length(kind: u8) -> Option<u64> {
     match kind {
         STATION | LINE | NIGHT => Some(0),
         OWNER => Some(4),
+        CHANGE | PREVIEW => Some(8),
         TALLY => Some(TALLY_HEAD),
         _ => None,
     }
@@ -51,7 +55,7 @@ impl Case {
     pub fn kind(&self) -> Option<Kind> {
         match self.kind {
             STATION | OWNER => Some(Kind::Enclave),
-            LINE | NIGHT => Some(Kind::Federate),
+            LINE | NIGHT | CHANGE | PREVIEW => Some(Kind::Federate),
             _ => None,
         }
     }
@@ -60,6 +64,11 @@ impl Case {
     pub fn mode(&self) -> Option<u32> {
         let rest: [u8; 4] = self.rest[..].try_into().ok()?;
         (self.kind == OWNER).then(|| u32::from_be_bytes(rest))
+    }
+
+    /// The number of the record that is changed or tried, and the row for it, where one is.
+    pub fn change(&self) -> Option<(u32, &[u8])> {
+        matches!(self.kind, CHANGE | PREVIEW).then(|| (number(&self.rest), &self.rest[8..]))
     }
 
     /// The part of the batch text, or of the house text where `house` is 1.
@@ -127,6 +136,13 @@ impl<R: Read> Corpus<R> {
             return Ok(Next::CutOff);
         }
         let mut case = Case { kind: head[0], pack, batch, house, rest };
+        if matches!(case.kind, CHANGE | PREVIEW) {
+            let length = number(&case.rest[4..]);
+            case.rest.extend(self.take(length.into())?);
+            if case.rest.len() < 8 + length as usize {
+                return Ok(Next::CutOff);
+            }
+        }
         let steps = if case.kind == TALLY { number(&case.rest[24..]) } else { 0 };
         for _ in 0..steps {
             match self.step(&mut case.rest)? {
