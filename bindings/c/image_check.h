@@ -13,6 +13,9 @@ extern "C" {
  * A call that has less ends the process at the guard page below the stack, before it writes to other memory. */
 #define IMAGE_CHECK_STACK 524288
 
+/* The same for one call that tries or changes a record of a pack of more than 65,536 bytes: the new line is checked in a copy, on the stack. */
+#define IMAGE_CHECK_CHANGE_STACK 4718592
+
 /* Checks the image of one station (an enclave) or of a whole line (a federate): a pack, its batch text and its house text.
  *
  * The result says how many of `numbers` hold the answer, from 1 to 7 (7 for refusals 12 and 13); the others of the eight are set to 0.
@@ -26,8 +29,8 @@ extern "C" {
  * numbers. A pack or a text that is too long is refused (1, 2) as any other fault is.
  *
  * Assumed of the host, and tested by nothing here:
- * - The program is for x86-64 Linux and calls by its C convention. The archive is position-independent and asks of the C library memcpy
- *   and memset only.
+ * - The program is for x86-64 Linux and calls by its C convention. The archive is position-independent and asks of the C library memcpy,
+ *   memmove and memset only.
  * - pack, batch and house each point to as many bytes as their length says, all readable and set. A length is below 2^63.
  *   With length 0 nothing is read: the pointer may be NULL or point anywhere. They need no alignment and may overlap one another.
  * - Nothing writes these bytes before the call returns: no other thread, and no other process through a file that is mapped there.
@@ -61,6 +64,22 @@ uint32_t check_federate_image_night(const uint8_t *pack, size_t pack_len, const 
  * it; or, for an accepted station without such a mode, 12, 6, 0, 20, 6, the mode and how many modes there are (result 7). */
 uint32_t mode_owner_of_image(const uint8_t *pack, size_t pack_len, const uint8_t *batch, size_t batch_len,
                              const uint8_t *house, size_t house_len, uint32_t mode, uint64_t *numbers);
+
+/* Tries a row in the place of one record of a line pack, or changes the record to it. Records are counted from 0, over the whole pack.
+ *
+ * The answer, in this order: 36, the row is not 64 bytes; the refusal of the line as it stands, as check_federate_image gives it; 35, the pack has no
+ * such record; 37, the table number (byte 0) would change; the refusal of the line with the row; else that line's yes: 0, its stations and its
+ * links (result 3). 35 to 37 carry no number after theirs. The change writes the row over the record's 64 bytes where the answer is that yes, and no
+ * byte of the pack where it refuses. preview_record_of_line answers what change_record_of_line would, and writes nothing but the numbers.
+ *
+ * What is said above of parts, numbers and calls holds of these too, the row being a part like the others, but that
+ * - the change writes the pack: its bytes may be written, overlap no other part, and nothing else reads or writes them before the call returns;
+ * - with a pack of more than 65,536 bytes the stack has room for IMAGE_CHECK_CHANGE_STACK. */
+uint32_t preview_record_of_line(const uint8_t *pack, size_t pack_len, const uint8_t *batch, size_t batch_len, const uint8_t *house,
+                                size_t house_len, uint32_t number, const uint8_t *row, size_t row_len, uint64_t *numbers);
+
+uint32_t change_record_of_line(uint8_t *pack, size_t pack_len, const uint8_t *batch, size_t batch_len, const uint8_t *house,
+                               size_t house_len, uint32_t number, const uint8_t *row, size_t row_len, uint64_t *numbers);
 
 /* A running tally of line answers: how many were added, at most 1,000,000; how many of these are accepted; and the sum of their links. All zeros
  * is the tally of no answers. */

@@ -9,7 +9,10 @@
 #include "image_check.h"
 
 /* The kinds of question. */
-enum { STATION = 0, LINE = 1, NIGHT = 2, OWNER = 6, TALLY = 12 };
+enum { STATION = 0, LINE = 1, NIGHT = 2, OWNER = 6, CHANGE = 8, PREVIEW = 9, TALLY = 12 };
+
+/* The most bytes that a case lends. */
+enum { MOST_LENT = 65536 };
 
 static void die(const char *what)
 {
@@ -47,11 +50,10 @@ static void print_numbers(const uint64_t *numbers, uint32_t from, uint32_t count
 {
     for (uint32_t i = from; i < count; i++)
         printf(" %" PRIu64, numbers[i]);
-    putchar('\n');
 }
 
-/* The line of an answer, whose first word is `yes` where nothing refuses. The numbers after it must be 0. */
-static void print_answer(const char *yes, const uint64_t *numbers, uint32_t count)
+/* An answer, whose first word is `yes` where nothing refuses. The numbers after it must be 0. */
+static void print_words(const char *yes, const uint64_t *numbers, uint32_t count)
 {
     if (count < 1 || count > 7)
         die("the result is not from 1 to 7");
@@ -62,13 +64,47 @@ static void print_answer(const char *yes, const uint64_t *numbers, uint32_t coun
     print_numbers(numbers, numbers[0] == 0 ? 1 : 0, count);
 }
 
-/* The number that follows the parts of a question of this kind. */
-static uint32_t asked(uint8_t kind, int *whole)
+static void print_answer(const char *yes, const uint64_t *numbers, uint32_t count)
+{
+    print_words(yes, numbers, count);
+    putchar('\n');
+}
+
+/* Bytes as they are after a call, which end a line. */
+static void print_bytes(const uint8_t *bytes, size_t n)
+{
+    fputs(n == 0 ? " | -" : " | ", stdout);
+    for (size_t i = 0; i < n; i++)
+        printf("%02x", bytes[i]);
+    putchar('\n');
+}
+
+/* A number of four bytes of the input, high byte first. */
+static uint32_t next_word(int *whole)
 {
     uint8_t bytes[4] = {0};
-    if (kind == OWNER && fread(bytes, 1, sizeof bytes, stdin) != sizeof bytes)
+    if (fread(bytes, 1, sizeof bytes, stdin) != sizeof bytes)
         *whole = 0;
     return (uint32_t)length_at(bytes);
+}
+
+/* Takes the bytes that a case lends, with their length before them; *known becomes 0 where they are more than a case lends. */
+static uint8_t *next_lent(size_t *n, int null_if_empty, int *whole, int *known)
+{
+    *n = next_word(whole);
+    if (*n > MOST_LENT)
+        *known = 0;
+    return *known ? part(*n, null_if_empty, whole) : NULL;
+}
+
+/* Says how the run ends with a case that is cut off or of no known kind; 0 where it is neither. */
+static int ends(int whole, int known)
+{
+    if (!whole)
+        puts("cut off");
+    else if (!known)
+        puts("unknown kind");
+    return !whole || !known;
 }
 
 /* A number of eight bytes of the input, high byte first. */
@@ -143,27 +179,43 @@ static int answer_tally(int whole)
     int known = 1;
     struct line_tally *tally = exactly(sizeof *tally);
     struct step *steps = NULL;
-    uint8_t bytes[4] = {0};
     size_t count, got = 0, room = 0;
     tally->answers = next_number(&whole);
     tally->accepted = next_number(&whole);
     tally->links = next_number(&whole);
-    if (fread(bytes, 1, sizeof bytes, stdin) != sizeof bytes)
-        whole = 0;
-    count = length_at(bytes);
+    count = next_word(&whole);
     for (; whole && known && got < count; got++) {
         if (got == room && (steps = realloc(steps, (room = 2 * room + 16) * sizeof *steps)) == NULL)
             die("no memory");
         steps[got] = next_step(&whole, &known);
     }
-    if (!whole)
-        puts("cut off");
-    else if (!known)
-        puts("unknown kind");
-    else
+    if (!ends(whole, known))
         print_tally(tally, steps, count);
     free(steps);
     free(tally);
+    return whole && known;
+}
+
+/* Answers a record of a line that is changed or tried, by what follows its parts; 0 where the run ends with it. */
+static int answer_change(const uint8_t *head, uint8_t *pack, const uint8_t *batch, const uint8_t *house, int null_if_empty, int whole)
+{
+    size_t p = length_at(head + 1), b = length_at(head + 5), h = length_at(head + 9);
+    uint32_t number = next_word(&whole), count;
+    int known = 1;
+    size_t r;
+    uint8_t *row = next_lent(&r, null_if_empty, &whole, &known);
+    uint64_t *numbers = exactly(8 * sizeof *numbers);
+    memset(numbers, 0xA5, 8 * sizeof *numbers);
+    if (!ends(whole, known)) {
+        if (head[0] == CHANGE)
+            count = change_record_of_line(pack, p, batch, b, house, h, number, row, r, numbers);
+        else
+            count = preview_record_of_line(pack, p, batch, b, house, h, number, row, r, numbers);
+        print_words("accepted", numbers, count);
+        print_bytes(pack, p);
+    }
+    free(row);
+    free(numbers);
     return whole && known;
 }
 
@@ -175,17 +227,14 @@ static int answer_case(const uint8_t *head, int null_if_empty)
     uint8_t *pack = part(p, null_if_empty, &whole);
     uint8_t *batch = part(b, null_if_empty, &whole);
     uint8_t *house = part(h, null_if_empty, &whole);
-    uint32_t mode = asked(head[0], &whole);
-    uint64_t *numbers;
-    if (head[0] == TALLY) {
-        free(pack);
-        free(batch);
-        free(house);
-        return answer_tally(whole);
-    }
-    numbers = exactly(8 * sizeof *numbers);
+    uint32_t mode = head[0] == OWNER ? next_word(&whole) : 0;
+    uint64_t *numbers = exactly(8 * sizeof *numbers);
     memset(numbers, 0xA5, 8 * sizeof *numbers);
-    if (!whole)
+    if (head[0] == TALLY)
+        whole = answer_tally(whole);
+    else if (head[0] == CHANGE || head[0] == PREVIEW)
+        whole = answer_change(head, pack, batch, house, null_if_empty, whole);
+    else if (!whole)
         puts("cut off");
     else if (head[0] == STATION)
         print_answer("accepted", numbers, check_enclave_image(pack, p, batch, b, house, h, numbers));

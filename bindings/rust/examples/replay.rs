@@ -1,6 +1,7 @@
 //! Answers a corpus on standard input as the program `replay` does (oracle/README.md has the format).
 use image_check::{
-    check_enclave, check_federate, check_federate_night, mode_owner, Fraction, Refusal, Tally,
+    
+    change_record, check_enclave, check_federate, check_federate_night, mode_owner, preview_record, Fraction, Refusal, Tally,
 };
 use std::io::{self, Read, Write};
 
@@ -56,6 +57,18 @@ fn tally(rest: &mut &[u8]) -> Option<String> {
     Some(format!("{}{blank}| {answers} {accepted} {links}", steps.join(" ; ")))
 }
 
+/// The line of a record that is changed or tried: the answer, and the pack as it then is.
+fn change(kind: u8, mut pack: Box<[u8]>, texts: [&[u8]; 2], rest: &mut &[u8]) -> Option<String> {
+    let ([batch, house], number, length) = (texts, number(rest)?, length(rest)?);
+    let row = take(rest, length)?;
+    let answer = match kind {
+        8 => change_record(&mut pack, batch, house, number, &row),
+        _ => preview_record(&pack, batch, house, number, &row),
+    };
+    let digits: String = pack.iter().map(|byte| format!("{byte:02x}")).collect();
+    Some(format!("{answer} | {}", if digits.is_empty() { "-" } else { &digits }))
+}
+
 /// The line of the next case, or nothing where the input ends inside it.
 fn next(rest: &mut &[u8]) -> Option<String> {
     let kind = take(rest, 1)?[0];
@@ -68,6 +81,7 @@ fn next(rest: &mut &[u8]) -> Option<String> {
         1 => check_federate(&pack, &batch, &house).to_string(),
         2 => check_federate_night(&pack, &batch, &house).to_string(),
         6 => mode_owner(&pack, &batch, &house, number(rest)?).to_string(),
+        8 | 9 => change(kind, pack, [&batch, &house], rest)?,
         12 => tally(rest)?,
         _ => UNKNOWN_KIND.to_string(),
     })

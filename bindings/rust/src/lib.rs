@@ -1,7 +1,8 @@
 //! The check of packed images: one station (an enclave) or a whole line (a federate), over a pack, its batch text and its house text.
 //!
-//! Any three byte slices get an answer. A [`Tally`] counts answers of lines. The code behind it is proved (`crates/image_check`); what
-//! its boundary assumes is said in `bindings/c/image_check.h`, and a slice of Rust's brings all of it but the stack, [`STACK`].
+//! Any three byte slices get an answer. One record of a line's pack can be tried ([`preview_record`]) and changed ([`change_record`]). A [`Tally`] counts
+//! answers of lines. The code behind it is proved (`crates/image_check`); what
+//! its boundary assumes is said in `bindings/c/image_check.h`, and a slice of Rust's brings all of it but the stack, [`STACK`] and [`CHANGE_STACK`].
 
 #[cfg(not(all(target_arch = "x86_64", target_os = "linux")))]
 compile_error!("libimage_check.a is for x86-64 Linux");
@@ -10,6 +11,9 @@ use std::fmt;
 
 /// Bytes of stack that are enough for one call; a thread of Rust's has more unless it is asked for fewer.
 pub const STACK: usize = 1 << 19;
+
+/// Bytes of stack that are enough to change or to try a record of a pack of more than 65,536 bytes. A thread of Rust's has less unless it is asked for more.
+pub const CHANGE_STACK: usize = (1 << 22) + STACK;
 
 /// What a check answers. It is shown in the words of the program `replay`.
 #[derive(Clone, Copy, Debug, PartialEq, Eq)]
@@ -145,6 +149,32 @@ extern "C" {
         numbers: *mut [u64; 8],
     ) -> u32;
 
+    fn preview_record_of_line(
+        pack: *const u8,
+        pack_len: usize,
+        batch: *const u8,
+        batch_len: usize,
+        house: *const u8,
+        house_len: usize,
+        number: u32,
+        row: *const u8,
+        row_len: usize,
+        numbers: *mut [u64; 8],
+    ) -> u32;
+
+    fn change_record_of_line(
+        pack: *mut u8,
+        pack_len: usize,
+        batch: *const u8,
+        batch_len: usize,
+        house: *const u8,
+        house_len: usize,
+        number: u32,
+        row: *const u8,
+        row_len: usize,
+        numbers: *mut [u64; 8],
+    ) -> u32;
+
     fn add_accepted_to_tally(tally: *mut Tally, links: u64, numbers: *mut [u64; 8]) -> u32;
     fn add_refused_to_tally(tally: *mut Tally, numbers: *mut [u64; 8]) -> u32;
     fn share_of_tally(tally: *const Tally, numbers: *mut [u64; 8]) -> u32;
@@ -181,10 +211,13 @@ pub fn check_enclave(pack: &[u8], batch: &[u8], house: &[u8]) -> Answer {
 
 /// What a check of a line answers.
 fn line(check: Check, lent: [&[u8]; 3]) -> Answer {
-    let refusal = numbers(check, lent);
-    match refusal.values {
+    of_line(numbers(check, lent))
+}
+
+fn of_line(answer: Refusal) -> Answer {
+    match answer.values {
         [0, enclaves, links, ..] => Answer::Federate { enclaves, links },
-        _ => Answer::Refused(refusal),
+        _ => Answer::Refused(answer),
     }
 }
 
@@ -197,6 +230,31 @@ pub fn check_federate(pack: &[u8], batch: &[u8], house: &[u8]) -> Answer {
 /// which does not.
 pub fn check_federate_night(pack: &[u8], batch: &[u8], house: &[u8]) -> Answer {
     line(check_federate_image_night, [pack, batch, house])
+}
+
+/// What [`change_record`] would answer of a copy of the pack. Nothing is written.
+///
+/// A pack of more than 65,536 bytes needs [`CHANGE_STACK`].
+pub fn preview_record(pack: &[u8], batch: &[u8], house: &[u8], number: u32, row: &[u8]) -> Answer {
+    let [(p, p_len), (b, b_len), (h, h_len), (r, r_len)] =
+        [pack, batch, house, row].map(|part| (part.as_ptr(), part.len()));
+    // SAFETY: as in `numbers`.
+    of_line(written_by(|written| unsafe {
+        preview_record_of_line(p, p_len, b, b_len, h, h_len, number, r, r_len, written)
+    }))
+}
+
+/// Writes the 64 bytes of `row` over record `number` of a line's pack, where the line is accepted before and after, and answers for the line after it;
+/// or answers the refusal (36, the line's own, 35, 37, or that of the line with the row), and leaves the pack as it was.
+///
+/// A pack of more than 65,536 bytes needs [`CHANGE_STACK`].
+pub fn change_record(pack: &mut [u8], batch: &[u8], house: &[u8], number: u32, row: &[u8]) -> Answer {
+    let [(b, b_len), (h, h_len), (r, r_len)] = [batch, house, row].map(|part| (part.as_ptr(), part.len()));
+    let (p, p_len) = (pack.as_mut_ptr(), pack.len());
+    // SAFETY: as in `numbers`, and the pack is this call's alone.
+    of_line(written_by(|written| unsafe {
+        change_record_of_line(p, p_len, b, b_len, h, h_len, number, r, r_len, written)
+    }))
 }
 
 /// The reactor that a mode of a station belongs to.

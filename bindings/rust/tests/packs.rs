@@ -1,7 +1,8 @@
 //! A few packs by hand, and large ones on a stack of `STACK` bytes.
 use image_check::{
-    check_enclave, check_federate, check_federate_night, mode_owner, Answer, Fraction, Owner, Tally, STACK,
+    change_record, check_enclave, check_federate, check_federate_night, mode_owner, preview_record,
 };
+use image_check::{Answer, Fraction, Owner, Tally, CHANGE_STACK, STACK};
 
 /// A record: its table, its bytes 1 and 2, and the words from byte 4 on.
 fn record(table: u8, bits: [u8; 2], words: &[u32]) -> Vec<u8> {
@@ -65,9 +66,13 @@ fn routed_text(n: u32) -> Vec<u8> {
     text
 }
 
-/// Runs on a thread with a stack of just `STACK` bytes.
+/// Runs on a thread with a stack of just so many bytes.
+fn on_stack<A: Send + 'static>(bytes: usize, check: impl FnOnce() -> A + Send + 'static) -> A {
+    std::thread::Builder::new().stack_size(bytes).spawn(check).unwrap().join().unwrap()
+}
+
 fn on_small_stack<A: Send + 'static>(check: impl FnOnce() -> A + Send + 'static) -> A {
-    std::thread::Builder::new().stack_size(STACK).spawn(check).unwrap().join().unwrap()
+    on_stack(STACK, check)
 }
 
 fn links_of_chain(scopes: u64) -> u64 {
@@ -192,6 +197,7 @@ fn lengths() {
 fn same_stack_as_in_the_header() {
     let header = include_str!("../../c/image_check.h");
     assert!(header.contains(&format!("#define IMAGE_CHECK_STACK {STACK}\n")));
+    assert!(header.contains(&format!("#define IMAGE_CHECK_CHANGE_STACK {CHANGE_STACK}\n")));
 }
 
 #[test]
@@ -230,6 +236,58 @@ fn many_routes() {
     let pack = [federate(2), routed(0, 15000), routed(1, 15000)].concat();
     let answer = on_small_stack(move || check_federate(&pack, &routed_text(15000), b""));
     assert_eq!(answer, Answer::Federate { enclaves: 2, links: 0 });
+}
+
+/// Record 1 of a line, its first station's, changed to one with more state slots, on a stack of so many bytes: the answers of a preview and of the change.
+fn more_slots(bytes: usize, mut pack: Vec<u8>, batch: Vec<u8>) -> [Answer; 2] {
+    let mut row = pack[64..128].to_vec();
+    row[12] = 1;
+    on_stack(bytes, move || {
+        let before = pack.clone();
+        let tried = preview_record(&pack, &batch, b"", 1, &row);
+        assert!(pack == before);
+        let changed = change_record(&mut pack, &batch, b"", 1, &row);
+        assert!(pack == [&before[..64], &row, &before[128..]].concat());
+        [tried, changed]
+    })
+}
+
+#[test]
+fn changes_of_records() {
+    let line = |slots| [federate(1), station(slots, 2)].concat();
+    let yes = Answer::Federate { enclaves: 1, links: 1 };
+    assert_eq!(more_slots(STACK, line(1), b"abf".to_vec()), [yes, yes]);
+    let refused = |mut pack: Vec<u8>, number, row: &[u8]| {
+        let before = pack.clone();
+        let tried = preview_record(&pack, b"abf", b"", number, row);
+        assert_eq!((change_record(&mut pack, b"abf", b"", number, row), &pack), (tried, &before));
+        tried.to_string()
+    };
+    let enclave = record(1, [0, 0], &[0, 1, 1]);
+    assert_eq!(refused(line(0), 1, &enclave[..63]), "refused 36");
+    assert_eq!(refused(line(0), 6, &enclave), "refused 23 2 0 0 0");
+    assert_eq!(refused(line(1), 6, &enclave), "refused 35");
+    assert_eq!(refused(line(1), u32::MAX, &enclave), "refused 35");
+    assert_eq!(refused(line(1), 2, &enclave), "refused 37");
+    assert_eq!(refused(line(1), 1, &record(1, [0, 0], &[0, 1, 0])), "refused 23 2 0 0 0");
+    assert_eq!(refused(line(1), 1, &record(1, [0, 0], &[0, 4, 1])), "refused 5 1");
+    assert_eq!(refused(vec![], 0, &enclave), "refused 1");
+    assert_eq!(refused(vec![], 0, &[]), "refused 36");
+}
+
+/// The new line is checked above the copy of the pack: the deepest scopes and the most routes.
+#[test]
+fn deepest_changes() {
+    let chain = |scopes| [federate(1), station(1, scopes)].concat();
+    for (bytes, scopes) in [(STACK, 1020), (CHANGE_STACK, 1021), (CHANGE_STACK, 65532)] {
+        let yes = Answer::Federate { enclaves: 1, links: links_of_chain(scopes.into()) };
+        assert_eq!(more_slots(bytes, chain(scopes), b"abf".to_vec()), [yes, yes]);
+    }
+    for (bytes, routes) in [(STACK, 505), (CHANGE_STACK, 15000)] {
+        let pack = [federate(2), routed(0, routes), routed(1, routes)].concat();
+        let yes = Answer::Federate { enclaves: 2, links: 0 };
+        assert_eq!(more_slots(bytes, pack, routed_text(routes)), [yes, yes]);
+    }
 }
 
 #[test]

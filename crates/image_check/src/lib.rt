@@ -1,6 +1,7 @@
 // What a host in another language asks: each answer as the documents' numbers, in eight numbers that the host lends.
 #![tactic(auto)]
 
+pub mod changes;
 pub mod tallies;
 
 ghost use Rattle.std.specs.Prelude.{◌≤◌, length};

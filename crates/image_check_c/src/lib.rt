@@ -6,13 +6,14 @@ ghost use Rattle.enclave.specs.Answer.{enclave_answer};
 ghost use Rattle.federate.specs.Answer.{federate_answer};
 ghost use Rattle.night.specs.Night.{night_answer};
 ghost use Rattle.mode_owner.specs.Owner.{owner_answer};
+ghost use Rattle.change.specs.Change.{change_answer, pack_after};
 ghost use Rattle.tally.specs.declared.LineResult.TheVariants.{Accepted, Refused};
 ghost use Rattle.tally.specs.Tally.{add_answer, added};
 ghost use Rattle.tally.specs.Fractions.{share, mean};
 ghost use Rattle.image_check.specs.Answered.{Answered};
 ghost use Rattle.image_check.specs.Tallies.{tally_of, tally_numbers, added_numbers, fraction_numbers};
 
-use image_check::tallies;
+use image_check::{changes, tallies};
 
 // The answer for an enclave pack and its two texts; the result is how many of `numbers` hold it.
 #[unsafe(no_mangle)]
@@ -65,6 +66,37 @@ pub extern "C" fn mode_owner_of_image<'a>(
     ensures { Answered (owner_answer pack.now batch.now house.now mode) result numbers.new }
 {
     image_check::mode_owner_of_image(pack, batch, house, mode, numbers)
+}
+
+// What a change of a record of a line would answer; the result is how many of `numbers` hold the answer.
+#[unsafe(no_mangle)]
+pub extern "C" fn preview_record_of_line<'a>(
+    pack: &'a [u8],
+    batch: &'a [u8],
+    house: &'a [u8],
+    number: u32,
+    row: &'a [u8],
+    numbers: &mut [u64; 8],
+) -> u32
+    ensures { Answered (change_answer pack.now batch.now house.now number row.now) result numbers.new }
+{
+    changes::preview_record_of_line(pack, batch, house, number, row, numbers)
+}
+
+// Changes a record of a line where it is accepted before and after; the result is how many of `numbers` hold the answer.
+#[unsafe(no_mangle)]
+pub extern "C" fn change_record_of_line<'a>(
+    pack: &mut [u8],
+    batch: &'a [u8],
+    house: &'a [u8],
+    number: u32,
+    row: &'a [u8],
+    numbers: &mut [u64; 8],
+) -> u32
+    ensures answer { Answered (change_answer pack.old batch.now house.now number row.now) result numbers.new }
+    ensures pack { pack.new ≡ pack_after pack.old batch.now house.now number row.now }
+{
+    changes::change_record_of_line(pack, batch, house, number, row, numbers)
 }
 
 // Adds an accepted answer to a tally, with its links; the result is how many of `numbers` hold the answer.
