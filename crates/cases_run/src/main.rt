@@ -1,6 +1,8 @@
-// The papers' lines tried by hand, and document 01's misreadings: packs from rows, a line for each with the check's answer; lines at night, and tallies.
+// The papers' lines tried by hand, and document 01's misreadings: packs from rows, a line for each with the check's answer;
+// lines at night, records that are changed, and tallies.
 #![tactic(auto)]
 
+mod changes;
 mod enclaves;
 mod federates;
 mod nights;
@@ -17,5 +19,6 @@ fn main(rt: HostRuntime) -> Result<()> {
     federates::cases(&rt)?;
     nights::cases(&rt)?;
     owners::cases(&rt)?;
-    tallies::cases(&rt)
+    tallies::cases(&rt)?;
+    changes::cases(&rt)
 }

@@ -2,6 +2,7 @@
 use answers::Refusal;
 use anyhow::Result;
 use cases::records::{Pack, RecordBytes, Recorded, put};
+use change::{change_record, preview_record};
 use enclave::check::check_enclave;
 use federate::FederateAccepted;
 use federate::check::check_federate;
@@ -101,4 +102,35 @@ pub fn show_night(
 ) -> Result<()> {
     let pack = line_pack(federate, stations)?;
     show_night_bytes(rt, name, pack.as_slice(), batch)
+}
+
+fn show_answer(rt: &HostRuntime, answer: Result<FederateAccepted, Refusal>) -> io::Result<()> {
+    match answer {
+        Ok(FederateAccepted { enclaves, links }) => print!(rt; "accepted {enclaves} {links}"),
+        Err(refusal) => print!(rt; "refused {refusal}"),
+    }
+}
+
+// What trying a record answers and what changing it answers, and how many of the pack's bytes are others after that.
+pub fn show_change(
+    rt: &HostRuntime,
+    name: &[u8],
+    pack: &[u8],
+    batch: &[u8],
+    number: u32,
+    row: &[u8],
+) -> Result<()> {
+    let mut after = Pack::new();
+    after.try_extend_from_slice(pack)?;
+    show_name(rt, name)?;
+    show_answer(rt, preview_record(pack, batch, b"", number, row))?;
+    print!(rt; " ; ")?;
+    show_answer(
+        rt,
+        change_record(after.as_mut_slice(), batch, b"", number, row),
+    )?;
+    let bytes = pack.iter().zip(after.as_slice());
+    let others = bytes.filter(|(before, after)| before != after).count();
+    println!(rt; " | {others} bytes")?;
+    Ok(())
 }
