@@ -1,5 +1,6 @@
 //! Measures boomerang's Rust and this check on the same packs: bench [FAMILY..] [--quick]
 mod chance;
+mod changes;
 mod deadlines;
 mod decode;
 mod edges;
@@ -30,6 +31,7 @@ use std::process::ExitCode;
 
 const TEXTS: &str = "texts";
 const NIGHT: &str = "night";
+const CHANGES: &str = "changes";
 
 struct Options {
     names: Vec<String>,
@@ -40,9 +42,8 @@ impl Options {
     fn read() -> Option<Self> {
         let (options, names): (Vec<_>, Vec<_>) =
             std::env::args().skip(1).partition(|word| word.starts_with('-'));
-        let known = |name: &String| {
-            [TEXTS, NIGHT].contains(&name.as_str()) || FAMILIES.iter().any(|family| family.name == *name)
-        };
+        let own = [TEXTS, NIGHT, CHANGES];
+        let known = |name: &String| own.contains(&name.as_str()) || FAMILIES.iter().any(|family| family.name == *name);
         let understood = options.iter().all(|option| option == "--quick") && names.iter().all(known);
         understood.then_some(Options { names, quick: !options.is_empty() })
     }
@@ -61,7 +62,7 @@ impl Options {
 
 fn main() -> ExitCode {
     let Some(options) = Options::read() else {
-        eprintln!("bench [FAMILY..] [--quick], a family being {NIGHT}, {TEXTS} or one of:");
+        eprintln!("bench [FAMILY..] [--quick], a family being {NIGHT}, {TEXTS}, {CHANGES} or one of:");
         FAMILIES.iter().for_each(|family| eprintln!("  {:<21} {}", family.name, family.about));
         return ExitCode::from(2);
     };
@@ -80,6 +81,9 @@ fn main() -> ExitCode {
         agreed &= texts::run(options.effort());
         agreed &= chance::agree(1_000_000);
         agreed &= edges::agree(options.quick);
+    }
+    if options.takes(CHANGES) {
+        agreed &= changes::run(options.effort(), options.quick);
     }
     println!("\n{}", if agreed { "all answers agree" } else { "SOME ANSWERS DIFFER" });
     ExitCode::from(!agreed as u8)
