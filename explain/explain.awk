@@ -83,7 +83,7 @@ function refused(n) {
   if (n <= 25) return of_reactors_and_bindings(n)
   if (n <= 28) return of_routes(n)
   if (n <= 31) return of_the_night(n)
-  if (n <= 37) return of_changes(n)
+  if (n <= 37) return of_hosts(n)
   return n <= 39 ? of_deadlines(n) : of_tallies(n)
 }
 
@@ -147,8 +147,9 @@ function of_the_night(n) {
   return ""
 }
 
-function of_changes(n) {
+function of_hosts(n) {
   if (!has(0)) return ""
+  if (n == 34) return "The output is shorter than the pack to be converted."
   if (n == 35) return "The pack has no record of that number."
   if (n == 36) return "The record to be put in is not 64 bytes long."
   if (n == 37) return "The record to be put in is of another table than the record in its place."
