@@ -14,11 +14,11 @@ use Rattle.schema.specs.Rows.{field}
 use Rattle.packing.specs.Shape.{layout_of, used, governed_offset, governed_bytes, governed, start_in, bytes_in, shape_of}
 
 -- a test holds of every layout of a list
-every : (Layout → Bool) → List Layout → Bool
+unfoldable pub every : (Layout → Bool) → List Layout → Bool
 every f [] = true
 every f (l ∷ ls) = f l && every f ls
 
-every-at : (f : Layout → Bool) (ls : List Layout) (d : Layout) (t : ℕ) → every f ls ≡ true → f d ≡ true → f (get_or ls t d) ≡ true
+pub every-at : (f : Layout → Bool) (ls : List Layout) (d : Layout) (t : ℕ) → every f ls ≡ true → f d ≡ true → f (get_or ls t d) ≡ true
 unfolding every
 every-at f [] d t e h = h
 every-at f (l ∷ ls) d zero e h = (both (f l) (every f ls) e).0
@@ -86,11 +86,11 @@ pub bytes_1 : (t : ℕ) → bytes_in (shape_of t).bit_1 ≡ governed_bytes 1 (la
 bytes_1 t = same_bytes 1 (layout_of t) (inside_1 t)
 
 -- a test holds of every number below k
-below : (ℕ → Bool) → ℕ → Bool
+unfoldable pub below : (ℕ → Bool) → ℕ → Bool
 below f zero = true
 below f (suc k) = below f k && f k
 
-below_at : (f : ℕ → Bool) (k j : ℕ) → below f k ≡ true → j < k → f j ≡ true
+pub below_at : (f : ℕ → Bool) (k j : ℕ) → below f k ≡ true → j < k → f j ≡ true
 unfolding below
 below_at f zero j e h = absurd (omega arith)
 below_at f (suc k) j e h =

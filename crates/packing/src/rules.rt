@@ -1,9 +1,9 @@
 // The packing rules: lengths, then record by record the table's place, stray bytes, and each identity's text.
-ghost use Rattle.std.specs.Prelude.{◌≡◌, ◌/◌, ◌<◌, ◌≤◌, length, IfOk};
+ghost use Rattle.std.specs.Prelude.{◌≡◌, ◌/◌, ◌<◌, ◌≤◌, is_ok, IfErr, length, IfOk};
 ghost use Rattle.answers.specs.Checks.{first, run};
 ghost use Rattle.schema.specs.Bytes.{byte_of};
 ghost use Rattle.packing.specs.Shape.{layout_of, shape_of};
-ghost use Rattle.packing.specs.Packing.{row_after, first_table, table_after, in_place, identity_at, identity_checks, record_checks, packing_checks, pack_outcome};
+ghost use Rattle.packing.specs.Packing.{pack_fits, row_after, first_table, table_after, in_place, identity_at, identity_checks, record_checks, packing_checks, pack_outcome};
 
 use crate::PackKind;
 use crate::clean::{clean, past_clean};
@@ -55,7 +55,7 @@ impl PackKind {
 
 // Whether a record's table is in its place.
 #[tactic(auto, using(crate::proofs::Packed::place_laws))]
-fn in_place(kind: PackKind, item: Record) -> bool
+pub fn in_place(kind: PackKind, item: Record) -> bool
     ensures { result ≡ in_place kind item.entry.bytes.now item.entry.number }
 {
     if item.number == 0 {
@@ -166,6 +166,21 @@ fn check_records(kind: PackKind, pack: Pack, texts: Texts) -> Result<(), Refusal
     Ok(())
 }
 
+// The pack of these bytes, where they are whole records, one at least and no more than the limit.
+pub fn whole_pack<'a>(bytes: &'a [u8]) -> Result<Pack<'a>, Refusal>
+    ensures fits { is_ok result ≡ pack_fits bytes.now }
+    ensures refused { IfErr result (λ r. r ≡ Refusal.Length) }
+    ensures same { IfOk result (λ pack. pack.bytes.now ≡ bytes.now) }
+    ensures some { IfOk result (λ pack. 0 < length pack.bytes.now) }
+    ensures few { IfOk result (λ pack. length pack.bytes.now ≤ 4194304) }
+{
+    let len = bytes.len();
+    if len == 0 || PACK_LIMIT < len || len % 64 != 0 {
+        return Err(Refusal::Length);
+    }
+    Ok(Pack { bytes })
+}
+
 // The pack of these bytes, where it passes the packing rules over its two texts.
 #[tactic(auto, unfolding(answers::specs::Checks::first, crate::specs::Packing::packing_checks))]
 pub fn checked_pack<'a>(kind: PackKind, bytes: &'a [u8], texts: Texts) -> Result<Pack<'a>, Refusal>
@@ -174,17 +189,13 @@ pub fn checked_pack<'a>(kind: PackKind, bytes: &'a [u8], texts: Texts) -> Result
     ensures some { IfOk result (λ pack. 0 < length pack.bytes.now) }
     ensures few { IfOk result (λ pack. length pack.bytes.now ≤ 4194304) }
 {
-    let len = bytes.len();
-    if len == 0 || PACK_LIMIT < len || len % 64 != 0 {
-        return Err(Refusal::Length);
-    }
+    let pack = whole_pack(bytes)?;
     if TEXT_LIMIT < texts.batch.len() {
         return Err(Refusal::TextTooLong { house: false });
     }
     if TEXT_LIMIT < texts.house.len() {
         return Err(Refusal::TextTooLong { house: true });
     }
-    let pack = Pack { bytes };
     check_records(kind, pack, texts)?;
     Ok(pack)
 }
