@@ -1,0 +1,4 @@
+pub mod Turned
+pub mod Convert
+pub mod Promises
+pub mod Steps
