@@ -1,6 +1,8 @@
 //! One answer and its line.
 use crate::change::Changed;
+use crate::lent;
 use crate::tally::Tallied;
+use pack::convert::Converted;
 use std::fmt;
 
 #[derive(Clone, Debug, PartialEq, Eq)]
@@ -13,6 +15,8 @@ pub enum Answer {
     Owner(u64),
     /// What changing or trying a record gave.
     Change(Changed),
+    /// What the converter gave, and the output after it.
+    Converted(Converted),
     /// What each step of a tally gave.
     Tally(Tallied),
 }
@@ -24,13 +28,22 @@ impl fmt::Display for Answer {
                 write!(to, "accepted {stations} {links}")
             }
             Answer::Accepted { stations: None, links } => write!(to, "accepted {links}"),
-            Answer::Refused(numbers) => {
-                write!(to, "refused")?;
-                numbers.iter().try_for_each(|number| write!(to, " {number}"))
-            }
+            Answer::Refused(numbers) => refused(to, numbers),
             Answer::Owner(reactor) => write!(to, "owner {reactor}"),
             Answer::Change(changed) => changed.fmt(to),
+            Answer::Converted(Converted { refusal, output }) => {
+                match refusal {
+                    None => write!(to, "converted")?,
+                    Some(numbers) => refused(to, numbers)?,
+                }
+                write!(to, " | {}", lent::digits(output))
+            }
             Answer::Tally(tallied) => tallied.fmt(to),
         }
     }
+}
+
+fn refused(to: &mut fmt::Formatter<'_>, numbers: &[u64]) -> fmt::Result {
+    write!(to, "refused")?;
+    numbers.iter().try_for_each(|number| write!(to, " {number}"))
 }

@@ -1,9 +1,10 @@
-//! A case through the packing rules, boomerang's check and that of the deadlines, as one answer; a record changed; or a tally.
+//! A case through the packing rules, boomerang's check and that of the deadlines, as one answer; a record changed; or a conversion, or a tally.
 mod answer;
 pub mod change;
 mod deadlines;
 mod enclave;
 mod identities;
+pub mod lent;
 mod links;
 pub mod night;
 mod numbers;
@@ -23,6 +24,7 @@ use boomerang_runtime::image::{
 };
 use enclave::Enclave;
 use identities::Identities;
+use pack::convert;
 use pack::corpus::{Case, Kind, NIGHT, TALLY};
 use pack::layout::{ENCLAVE, FEDERATE};
 use pack::packing;
@@ -35,6 +37,9 @@ pub fn answer(case: &Case) -> Answer {
     }
     if let Some((number, row)) = case.change() {
         return Answer::Change(change::of(case, number, row));
+    }
+    if let Some((kind, output)) = case.conversion() {
+        return Answer::Converted(convert::of(&case.pack, kind, output));
     }
     let kind = case.kind().expect("a kind that a corpus has");
     let answer = match packing::check(case, kind) {

@@ -1,5 +1,6 @@
 //! `gen SEED COUNT OUT [--from N] [--only MIX]`: a corpus of generated cases.
 mod change;
+mod convert;
 mod damage;
 mod deadlines;
 mod deep;
@@ -33,7 +34,7 @@ fn main() -> ExitCode {
         let styles: Vec<&str> = STYLES.iter().map(|style| style.name).collect();
         eprintln!("gen SEED COUNT OUT [--from N] [--only MIX]");
         eprintln!(
-            "MIX: all, station, line, packing, deadlines, large, deep, night, owner, change, tally, {}",
+            "MIX: all, station, line, packing, deadlines, large, deep, night, owner, change, convert, tally, {}",
             styles.join(", ")
         );
         return ExitCode::from(2);

@@ -6,7 +6,7 @@ use crate::line::{grown, Extent};
 use crate::plan::{Size, SMALL};
 use crate::rng::Rng;
 use crate::texts::Texts;
-use crate::{change, faults, identities, night, tally, tiny};
+use crate::{change, convert, faults, identities, night, tally, tiny};
 use pack::corpus::{Case, Kind, NIGHT, OWNER};
 use pack::layout::{MODES, ROUTES};
 use pack::row::{pack, Row};
@@ -54,7 +54,7 @@ pub struct Mix {
 }
 
 impl Mix {
-    /// The mix with this name: a group, a style, `large`, `deep`, `night`, `owner`, `change` or `tally`.
+    /// The mix with this name: a group, a style, `large`, `deep`, `night`, `owner`, `change`, `convert` or `tally`.
     pub fn named(name: &str) -> Option<Self> {
         let found = GROUPS.iter().find(|group| group.0 == name);
         let (names, kind) = found.map_or((vec![name], None), |group| (group.1.to_vec(), group.2));
@@ -65,13 +65,14 @@ impl Mix {
             "night" => Some(at_night),
             "owner" => Some(owner),
             "change" => Some(|rng, _| change::case(rng)),
+            "convert" => Some(to_convert),
             "tally" => Some(|rng, _| tally::case(rng)),
             _ => None,
         };
         let rarities = name == "all" || name == "packing";
         let with_deadlines = match name {
             "deadlines" => 1000,
-            "deep" | "change" | "tally" => 0,
+            "deep" | "change" | "convert" | "tally" => 0,
             _ => 460,
         };
         let mix = Mix { styles, kind, rarities, special, with_deadlines };
@@ -274,4 +275,21 @@ fn owner(rng: &mut Rng, _: Kind) -> Case {
     let after = [modes, modes + 1, u64::from(u32::MAX)];
     let mode = if modes == 0 || rng.chance(1, 4) { rng.pick(&after) } else { rng.below(modes) };
     Case { kind: OWNER, rest: (mode as u32).to_be_bytes().into(), ..case(Kind::Enclave, &rows, texts) }
+}
+
+/// A pack to convert, well-formed or badly packed, with deadlines half of the time.
+fn to_convert(rng: &mut Rng, kind: Kind) -> Case {
+    if rng.chance(1, 4_000) {
+        return convert::at_the_limit(rng, kind);
+    }
+    let mut case = if rng.chance(1, 4) { small(rng, kind) } else { plain(rng, kind) };
+    if rng.chance(1, 2) {
+        deadlines::add(rng, &mut case);
+    }
+    match rng.below(8) {
+        0..=2 => faults::spoil(rng, &mut case),
+        3 => faults::bytes(rng, &mut case),
+        _ => {}
+    }
+    convert::question(rng, case)
 }

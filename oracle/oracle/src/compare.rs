@@ -41,15 +41,11 @@ fn different(number: u64, ours: &str, theirs: &str) -> Done {
     Ok(false)
 }
 
-/// `accepted`, or `refused` with its number, and whether bytes follow; of a tally, which refusals it met.
+/// `accepted`, or `refused` with its number; of a tally, which refusals it met. Bytes that were lent are compared, and not counted.
 fn group(line: &str) -> String {
-    if let Some((before, after)) = line.rsplit_once("| ") {
-        let bytes = !after.contains(' ');
-        return if bytes {
-            format!("{}, with the bytes after it", group(before.trim_end()))
-        } else {
-            tally(line)
-        };
+    if let Some((answer, after)) = line.split_once('|') {
+        // Behind it a tally has three numbers, and lent bytes are one word.
+        return if after.trim().contains(' ') { tally(line) } else { group(answer.trim()) };
     }
     let mut words = line.split(' ');
     match (words.next(), words.next()) {

@@ -1,4 +1,5 @@
 //! The oracle's commands.
+mod back;
 mod case;
 mod compare;
 mod deadlines;
@@ -28,6 +29,8 @@ oracle with TABLE CORPUS OUT         the cases that have a record of a table
 oracle compare ANSWERS REPLAYED      two files of answer lines, line by line
 oracle worth CORPUS                  tries what a yes is worth on each accepted station and line
 oracle unlooked CORPUS OUT           changes what the check does not look at in each case: one answer
+oracle back CORPUS REPLAYED OUT ANSWERS
+                                     the packs that REPLAYED has converted, to be converted back, and what that answers
 oracle lines                         the papers' lines tried by hand
 oracle lines OUT ANSWERS             the same as a corpus and its answers";
 
@@ -47,6 +50,7 @@ fn main() -> ExitCode {
         ["compare", answers, replayed] => compare::print(answers, replayed),
         ["worth", corpus] => worth::print(corpus),
         ["unlooked", corpus, out] => unlooked::print(corpus, out),
+        ["back", corpus, replayed, out, answers] => back::write(corpus, replayed, out, answers),
         ["lines"] => lines::print(),
         ["lines", out, answers] => lines::write(out, answers),
         [corpus] if !corpus.starts_with('-') => answers(corpus),

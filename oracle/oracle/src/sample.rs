@@ -32,6 +32,7 @@ fn without_site(case: &Case, answer: &Answer) -> String {
         Answer::Accepted { .. } => format!("accepted {}", case.kind),
         Answer::Owner(_) => "owner".into(),
         Answer::Change(_) => "change".into(),
+        Answer::Converted(_) => "converted".into(),
         Answer::Tally(_) => "tally".into(),
         Answer::Refused(numbers) => format!("refused {}", numbers[0]),
     }

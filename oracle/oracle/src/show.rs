@@ -18,12 +18,16 @@ pub fn print(corpus: &str, number: &str) -> Done {
         show_tally(number, &case);
         return Ok(true);
     }
-    let kind = match case.kind() {
+    let conversion = case.conversion();
+    let kind = match case.kind().or(conversion.map(|(kind, _)| kind)) {
         _ if case.kind == NIGHT => "line (federate) at night",
         Some(Kind::Federate) => "line (federate)",
         _ => "station (enclave)",
     };
-    let asked = case.mode().map_or(String::new(), |mode| format!(", the owner of mode {mode}"));
+    let asked = match conversion {
+        Some((_, output)) => format!(", to be converted into {} bytes", output.len()),
+        None => case.mode().map_or(String::new(), |mode| format!(", the owner of mode {mode}")),
+    };
     let asked = case.change().map_or(asked, |(number, row)| changed(&case, number, row));
     println!("case {number}: {kind}{asked}, {} bytes of pack", case.pack.len());
     println!("batch, {} bytes: {}", case.batch.len(), shown(&case.batch));

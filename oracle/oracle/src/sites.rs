@@ -5,14 +5,18 @@
 use check::night::is_of_the_night;
 use check::owner::is_of_mode_asked;
 use check::{answer, rows, stations, Answer};
+use pack::convert::turned;
 use pack::corpus::{Case, Kind};
 use pack::layout::{ACTIONS, MODES, PORTS, REACTORS, SCOPES, TIMER};
 use pack::names::{direction_name, field_name, kind_name, table_name};
 use pack::packing;
 use pack::row::Row;
 
-/// The name of the site; none for an answer that is no refusal, for that of a mode asked that is not there, and for the night's own.
+/// The name of the site; none for an answer that is no refusal, for that of a mode asked that is not there, and for the night's own, and for an output too short.
 pub fn of(case: &Case, answer: &Answer) -> Option<String> {
+    if let Some((kind, output)) = case.conversion() {
+        return conversion_site(&case.pack, kind, output.len());
+    }
     let Answer::Refused(numbers) = answer else {
         return None;
     };
@@ -26,6 +30,17 @@ pub fn of(case: &Case, answer: &Answer) -> Option<String> {
     let stations = stations(&rows);
     let station = refusing_station(case, &stations).map(|place| stations[place]);
     Some(view_site(case, numbers, station.unwrap_or(&[]), station.is_some()))
+}
+
+/// The site of a conversion's 1, 3 or 4, which are the packing rules'.
+fn conversion_site(pack: &[u8], kind: Kind, room: usize) -> Option<String> {
+    let length = packing::check_length(pack.len());
+    let fault = match length {
+        Ok(()) if room < pack.len() => return None,
+        Ok(()) => packing::check_shapes(&turned(pack), kind).err()?,
+        Err(fault) => fault,
+    };
+    Some(packing_site(&fault))
 }
 
 fn packing_site(fault: &packing::Fault) -> String {

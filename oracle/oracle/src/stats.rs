@@ -2,6 +2,7 @@
 use crate::{deadlines, for_each, site_list, sites, Done};
 use check::{answer, Answer};
 use pack::corpus::{CHANGE, LINE};
+use pack::convert::Converted;
 use pack::names::{direction_name, field_name, kind_name, refusal_of, table_name, Value};
 use std::collections::BTreeMap;
 
@@ -63,6 +64,10 @@ fn group(answer: &Answer, kind: u8) -> String {
         Answer::Refused(numbers) => format!("refused {:02} {}", numbers[0], refusal_of(numbers[0]).name),
         Answer::Owner(_) => "owner of a mode".into(),
         Answer::Change(changed) => format!("{}: {}", change_name(kind), group(&changed.answer, LINE)),
+        Answer::Converted(Converted { refusal: None, .. }) => "converted".into(),
+        Answer::Converted(Converted { refusal: Some(numbers), .. }) => {
+            format!("not converted, {:02} {}", numbers[0], refusal_of(numbers[0]).name)
+        }
         Answer::Tally(_) => "tally".into(),
     }
 }

@@ -9,23 +9,24 @@ pub enum Kind {
 }
 
 /// The kinds of question: the check of a station, that of a line, that of a line at night, the owner of a mode, a record of a line changed or tried first,
-/// and a tally.
+/// the converter, and a tally.
 pub const STATION: u8 = 0;
 pub const LINE: u8 = 1;
 pub const NIGHT: u8 = 2;
 pub const OWNER: u8 = 6;
 pub const CHANGE: u8 = 8;
 pub const PREVIEW: u8 = 9;
+pub const CONVERT: u8 = 7;
 pub const TALLY: u8 = 12;
 
 /// The bytes of a tally's three numbers and of how many steps it has.
 pub const TALLY_HEAD: u64 = 28;
 
-/// How many bytes follow a question's parts, before the steps of a tally and the row of a change; none for a kind that is not known.
+/// How many bytes follow a question's parts, before the output of a conversion and the steps of a tally and the row of a change; none for a kind that is not known.
 fn rest_length(kind: u8) -> Option<u64> {
     match kind {
         STATION | LINE | NIGHT => Some(0),
-        OWNER => Some(4),
+        OWNER | CONVERT => Some(4),
         CHANGE | PREVIEW => Some(8),
         TALLY => Some(TALLY_HEAD),
         _ => None,
@@ -69,6 +70,15 @@ impl Case {
     /// The number of the record that is changed or tried, and the row for it, where one is.
     pub fn change(&self) -> Option<(u32, &[u8])> {
         matches!(self.kind, CHANGE | PREVIEW).then(|| (number(&self.rest), &self.rest[8..]))
+    }
+
+    /// What is to be converted, a station or a line, and the output that is lent.
+    pub fn conversion(&self) -> Option<(Kind, &[u8])> {
+        if self.kind != CONVERT {
+            return None;
+        }
+        let kind = if number(&self.rest) == 0 { Kind::Enclave } else { Kind::Federate };
+        Some((kind, &self.rest[8..]))
     }
 
     /// The part of the batch text, or of the house text where `house` is 1.
@@ -143,14 +153,39 @@ impl<R: Read> Corpus<R> {
                 return Ok(Next::CutOff);
             }
         }
-        let steps = if case.kind == TALLY { number(&case.rest[24..]) } else { 0 };
-        for _ in 0..steps {
-            match self.step(&mut case.rest)? {
-                None => {}
-                Some(end) => return Ok(end),
+        let ended = match case.kind {
+            TALLY => self.steps(&mut case.rest)?,
+            CONVERT => self.output(&mut case.rest)?,
+            _ => None,
+        };
+        Ok(ended.unwrap_or(Next::Case(case)))
+    }
+
+    /// Adds the output of a conversion, behind whether the pack is a station (0) or a line (1); or how the corpus ends there.
+    fn output(&mut self, rest: &mut Vec<u8>) -> io::Result<Option<Next>> {
+        if number(rest) > 1 {
+            return Ok(Some(Next::UnknownKind));
+        }
+        let head = self.take(4)?;
+        if head.len() < 4 {
+            return Ok(Some(Next::CutOff));
+        }
+        let length = number(&head);
+        let output = self.take(length.into())?;
+        let whole = output.len() == length as usize;
+        rest.extend([head, output].concat());
+        Ok((!whole).then_some(Next::CutOff))
+    }
+
+    /// Adds a tally's steps; or how the corpus ends there.
+    fn steps(&mut self, rest: &mut Vec<u8>) -> io::Result<Option<Next>> {
+        for _ in 0..number(&rest[24..]) {
+            let ended = self.step(rest)?;
+            if ended.is_some() {
+                return Ok(ended);
             }
         }
-        Ok(Next::Case(case))
+        Ok(None)
     }
 
     /// Adds a tally's next step; or how the corpus ends there.

@@ -1,4 +1,5 @@
 //! The pack, the corpus and the packing rules, from documents 01 and 02.
+pub mod convert;
 pub mod corpus;
 pub mod layout;
 pub mod names;

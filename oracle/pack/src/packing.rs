@@ -13,15 +13,25 @@ pub struct Fault {
     pub why: &'static str,
 }
 
-type Checked = Result<(), Fault>;
+pub type Checked = Result<(), Fault>;
 
 /// Lengths, texts, then record by record.
 pub fn check(case: &Case, kind: Kind) -> Checked {
     check_length(case.pack.len())?;
     check_text(&case.batch, 0, "batch")?;
     check_text(&case.house, 1, "house")?;
+    check_records(&case.pack, kind, |record| check_identities(case, record))
+}
+
+/// Record by record refusals 3 and 4 alone: no text is asked.
+pub fn check_shapes(pack: &[u8], kind: Kind) -> Checked {
+    check_records(pack, kind, |_| Ok(()))
+}
+
+/// Record by record refusals 3 and 4, and then what else is asked of the record.
+fn check_records(pack: &[u8], kind: Kind, more: impl Fn(&[u8]) -> Result<(), Reason>) -> Checked {
     let mut before = None;
-    for (index, record) in case.pack.chunks(RECORD).enumerate() {
+    for (index, record) in pack.chunks(RECORD).enumerate() {
         let refuse = |(refusal, why)| Fault {
             refusal,
             number: Some(index as u64),
@@ -30,13 +40,14 @@ pub fn check(case: &Case, kind: Kind) -> Checked {
         };
         check_place(kind, before, record[0]).map_err(refuse)?;
         check_strays(record).map_err(refuse)?;
-        check_identities(case, record).map_err(refuse)?;
+        more(record).map_err(refuse)?;
         before = Some(record[0]);
     }
     Ok(())
 }
 
-fn check_length(length: usize) -> Checked {
+/// Refusal 1.
+pub fn check_length(length: usize) -> Checked {
     let why = if length == 0 {
         "empty"
     } else if length > PACK_LIMIT {
