@@ -1,7 +1,8 @@
 // One answer line for each case of a corpus.
 use crate::answer::answer_of;
 use crate::changes::{ChangeCase, change_answer, read_change};
-use crate::input::{CHANGE, PREVIEW, ReadError, Room, TALLY, read_kind, read_parts};
+use crate::conversion::{Conversion, conversion_answer, read_conversion};
+use crate::input::{CHANGE, CONVERT, PREVIEW, ReadError, Room, TALLY, read_kind, read_parts};
 use crate::steps::{TallyCase, read_step, read_tally, step_answer};
 use arrayvec::ArrayVec;
 use std::io;
@@ -70,6 +71,17 @@ fn add_change<W: Write>(output: &mut W, lines: &mut Lines, case: ChangeCase) -> 
     writeln!(lines)
 }
 
+// Adds the line of a conversion: the answer, and the output as it then is.
+fn add_conversion<W: Write>(output: &mut W, lines: &mut Lines, case: Conversion) -> io::Result<()> {
+    let mut case = case;
+    match conversion_answer(&mut case) {
+        Ok(()) => write!(lines, "converted")?,
+        Err(refusal) => write!(lines, "refused {refusal}")?,
+    }
+    add_bytes(output, lines, case.output)?;
+    writeln!(lines)
+}
+
 // Takes what follows the first byte of a case of that kind, and adds its line.
 fn answer_case<R: BufRead, W: Write>(
     kind: u8,
@@ -82,6 +94,10 @@ fn answer_case<R: BufRead, W: Write>(
         CHANGE | PREVIEW => {
             let case = read_change(kind == CHANGE, input, room)?;
             add_change(output, lines, case)
+        }
+        CONVERT => {
+            let case = read_conversion(input, room)?;
+            add_conversion(output, lines, case)
         }
         TALLY => {
             let case = read_tally(input, room.pack)?;

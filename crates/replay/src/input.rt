@@ -31,6 +31,8 @@ const FEDERATE_NIGHT: u8 = 2;
 
 const MODE_OWNER: u8 = 6;
 
+pub const CONVERT: u8 = 7;
+
 pub const CHANGE: u8 = 8;
 
 pub const PREVIEW: u8 = 9;
@@ -86,6 +88,28 @@ pub fn keep<R: Read>(input: &mut R, room: &mut [u8], len: u32) -> Result<usize, 
     Ok(kept)
 }
 
+// Takes bytes with their length before them, into the room, and answers how many. A case with more of them than the room holds is of no known kind.
+pub fn read_lent<R: Read>(input: &mut R, room: &mut [u8]) -> Result<usize, ReadError>
+    ensures { IfOk result (λ n. n ≤ length room.new) }
+{
+    let len = read_u32(input)? as usize;
+    if room.len() < len {
+        return Err(ReadError::UnknownKind);
+    }
+    input.read_exact(&mut room[..len])?;
+    Ok(len)
+}
+
+// Takes a pack and two texts that a question has no use for.
+pub fn pass_over_parts<R: Read>(input: &mut R) -> Result<(), ReadError> {
+    let pack_len = read_u32(input)?;
+    let batch_len = read_u32(input)?;
+    let house_len = read_u32(input)?;
+    pass_over(input, pack_len as usize)?;
+    pass_over(input, batch_len as usize)?;
+    pass_over(input, house_len as usize)
+}
+
 // Takes `len` bytes, and lends those that are kept.
 pub fn take<'a, R: Read>(
     input: &mut R,
@@ -96,13 +120,13 @@ pub fn take<'a, R: Read>(
     Ok(&room[..kept])
 }
 
-// Room for the parts of a case, lent: nothing here asks for memory.
+// Room for the parts of a case and for the bytes that it lends: nothing here asks for memory.
 #[derive(Drop)]
 pub struct Room<'a> {
     pub pack: &'a mut [u8],
     pub batch: &'a mut [u8],
     pub house: &'a mut [u8],
-    pub row: &'a mut [u8],
+    pub lent: &'a mut [u8],
 }
 
 // Takes what follows the parts of a question of that kind.

@@ -3,6 +3,7 @@
 
 mod answer;
 mod changes;
+mod conversion;
 mod corpus;
 mod input;
 mod steps;
@@ -12,8 +13,8 @@ ghost use Rattle.std.specs.Prelude.{◌≤◌};
 use input::Room;
 use std::io;
 
-// Room for a row, and a byte more: a longer one is refused whatever its bytes are.
-const ROW: usize = 65;
+// The most bytes that a case lends, a row or an output among them.
+const LENT: usize = 65_536;
 
 // With room for so many bytes of a pack and of each text.
 fn answer_with<const PACK: usize, const TEXT: usize>(rt: &HostRuntime) -> io::Result<()>
@@ -24,7 +25,7 @@ fn answer_with<const PACK: usize, const TEXT: usize>(rt: &HostRuntime) -> io::Re
         pack: &mut [0u8; PACK],
         batch: &mut [0u8; TEXT],
         house: &mut [0u8; TEXT],
-        row: &mut [0u8; ROW],
+        lent: &mut [0u8; LENT],
     };
     corpus::answer_all(&mut rt.reader(), &mut room, &mut io::writer(rt))
 }
