@@ -22,7 +22,7 @@ extern "C" {
  *   numbers[0] is 0: accepted. Then follow, for an enclave, the links (result 2); for a federate, the stations and the links (result 3).
  *   numbers[0] is not 0: refused. It is the refusal's number, from 1 to 39, and the numbers that it carries follow. docs/REFUSALS.md lists
  *   them. Tables are numbered 0 to 25, as in the pack (25 are the deadlines, which may be left out); in 13 also 255, the numbers of stations.
- * The program `replay` prints these numbers: `accepted` (`owner` for a mode's owner) and those after the 0, or `refused` and all of them.
+ * The program `replay` prints these numbers: `accepted` (`owner` for a mode's owner, `converted`) and those after the 0, or `refused` and all of them.
  *
  * Proved (crates/image_check, exported by crates/image_check_c): for any three strings of bytes, whatever their lengths and contents, the
  * call ends, these are the numbers and this the result, it reads no byte outside the three strings and writes nothing but the eight
@@ -80,6 +80,21 @@ uint32_t preview_record_of_line(const uint8_t *pack, size_t pack_len, const uint
 
 uint32_t change_record_of_line(uint8_t *pack, size_t pack_len, const uint8_t *batch, size_t batch_len, const uint8_t *house,
                                size_t house_len, uint32_t number, const uint8_t *row, size_t row_len, uint64_t *numbers);
+
+/* Turns every number of a pack round, a W or a D, from high byte first to low byte first or back: of a station's pack, or of a whole line's. Bytes 0 to
+ * 3 of a record keep their place, and those past its numbers. No text is asked.
+ *
+ * The answer: 0 (result 1), and the first pack_len bytes of out are the pack turned round; or 1; or 34, out_len is below pack_len; or 3 or 4 and a record
+ * (result 2), as check_enclave_image and check_federate_image have them, of the turned pack. Behind pack_len bytes, and after a refusal all of it, out is as
+ * it was. What is given is taken in its turn, with as long an output, and gives the first pack.
+ *
+ * Proved, for any two strings of bytes: the call ends, these are the numbers, this the result and these the bytes of out, and it reads nothing but the pack
+ * and writes nothing but the eight numbers and out. What is said above of calls, numbers and the stack holds here too. Assumed of the host: pack as above;
+ * out points to out_len bytes that may be written (with 0 it may be NULL or point anywhere); it overlaps neither pack nor numbers, and nothing else reads
+ * or writes it before the call returns. */
+uint32_t convert_enclave_image(const uint8_t *pack, size_t pack_len, uint8_t *out, size_t out_len, uint64_t *numbers);
+
+uint32_t convert_federate_image(const uint8_t *pack, size_t pack_len, uint8_t *out, size_t out_len, uint64_t *numbers);
 
 /* A running tally of line answers: how many were added, at most 1,000,000; how many of these are accepted; and the sum of their links. All zeros
  * is the tally of no answers. */

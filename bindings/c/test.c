@@ -9,7 +9,7 @@
 #include "image_check.h"
 
 /* The kinds of question. */
-enum { STATION = 0, LINE = 1, NIGHT = 2, OWNER = 6, CHANGE = 8, PREVIEW = 9, TALLY = 12 };
+enum { STATION = 0, LINE = 1, NIGHT = 2, OWNER = 6, CONVERT = 7, CHANGE = 8, PREVIEW = 9, TALLY = 12 };
 
 /* The most bytes that a case lends. */
 enum { MOST_LENT = 65536 };
@@ -219,6 +219,25 @@ static int answer_change(const uint8_t *head, uint8_t *pack, const uint8_t *batc
     return whole && known;
 }
 
+/* Answers a conversion of this pack, by what follows its parts; 0 where the run ends with it. */
+static int answer_conversion(const uint8_t *pack, size_t p, int null_if_empty, int whole)
+{
+    uint32_t kind = next_word(&whole), count;
+    int known = kind <= 1;
+    size_t n = 0;
+    uint8_t *out = whole && known ? next_lent(&n, null_if_empty, &whole, &known) : NULL;
+    uint64_t *numbers = exactly(8 * sizeof *numbers);
+    memset(numbers, 0xA5, 8 * sizeof *numbers);
+    if (!ends(whole, known)) {
+        count = (kind == 0 ? convert_enclave_image : convert_federate_image)(pack, p, out, n, numbers);
+        print_words("converted", numbers, count);
+        print_bytes(out, n);
+    }
+    free(out);
+    free(numbers);
+    return whole && known;
+}
+
 /* Answers one case whose first 13 bytes are `head`; 0 where the run ends with it. */
 static int answer_case(const uint8_t *head, int null_if_empty)
 {
@@ -234,6 +253,8 @@ static int answer_case(const uint8_t *head, int null_if_empty)
         whole = answer_tally(whole);
     else if (head[0] == CHANGE || head[0] == PREVIEW)
         whole = answer_change(head, pack, batch, house, null_if_empty, whole);
+    else if (head[0] == CONVERT)
+        whole = answer_conversion(pack, p, null_if_empty, whole);
     else if (!whole)
         puts("cut off");
     else if (head[0] == STATION)

@@ -1,7 +1,7 @@
 //! Answers a corpus on standard input as the program `replay` does (oracle/README.md has the format).
 use image_check::{
     
-    change_record, check_enclave, check_federate, check_federate_night, mode_owner, preview_record, Fraction, Refusal, Tally,
+    change_record, check_enclave, check_federate, check_federate_night, convert_enclave, convert_federate, mode_owner, preview_record, Fraction, Refusal, Tally,
 };
 use std::io::{self, Read, Write};
 
@@ -31,8 +31,9 @@ fn long(rest: &mut &[u8]) -> Option<u64> {
     Some(u64::from_be_bytes(*bytes))
 }
 
-fn added(answer: Result<(), Refusal>) -> String {
-    answer.map_or_else(|refusal| refusal.to_string(), |()| "added".to_string())
+/// The word for what has no value to give, or its refusal.
+fn done(answer: Result<(), Refusal>, word: &str) -> String {
+    answer.map_or_else(|refusal| refusal.to_string(), |()| word.to_string())
 }
 
 fn fraction(answer: Result<Fraction, Refusal>) -> String {
@@ -45,8 +46,8 @@ fn tally(rest: &mut &[u8]) -> Option<String> {
     let mut steps = Vec::new();
     for _ in 0..number(rest)? {
         steps.push(match take(rest, 1)?[0] {
-            0 => added(tally.add_refused()),
-            1 => added(tally.add_accepted(long(rest)?)),
+            0 => done(tally.add_refused(), "added"),
+            1 => done(tally.add_accepted(long(rest)?), "added"),
             2 => fraction(tally.share()),
             3 => fraction(tally.mean()),
             _ => return Some(UNKNOWN_KIND.to_string()),
@@ -69,6 +70,27 @@ fn change(kind: u8, mut pack: Box<[u8]>, texts: [&[u8]; 2], rest: &mut &[u8]) ->
     Some(format!("{answer} | {}", if digits.is_empty() { "-" } else { &digits }))
 }
 
+/// The line of a conversion, or nothing where the input ends inside it.
+fn conversion(pack: &[u8], rest: &mut &[u8]) -> Option<String> {
+    let converter = match number(rest)? {
+        0 => convert_enclave,
+        1 => convert_federate,
+        _ => return Some(UNKNOWN_KIND.to_string()),
+    };
+    let length = length(rest)?;
+    let mut out = take(rest, length)?;
+    let answer = done(converter(pack, &mut out), "converted");
+    Some(format!("{answer} | {}", digits(&out)))
+}
+
+/// Bytes in hexadecimal digits, or `-` for none.
+fn digits(bytes: &[u8]) -> String {
+    if bytes.is_empty() {
+        return "-".to_string();
+    }
+    bytes.iter().map(|byte| format!("{byte:02x}")).collect()
+}
+
 /// The line of the next case, or nothing where the input ends inside it.
 fn next(rest: &mut &[u8]) -> Option<String> {
     let kind = take(rest, 1)?[0];
@@ -82,6 +104,7 @@ fn next(rest: &mut &[u8]) -> Option<String> {
         2 => check_federate_night(&pack, &batch, &house).to_string(),
         6 => mode_owner(&pack, &batch, &house, number(rest)?).to_string(),
         8 | 9 => change(kind, pack, [&batch, &house], rest)?,
+        7 => conversion(&pack, rest)?,
         12 => tally(rest)?,
         _ => UNKNOWN_KIND.to_string(),
     })

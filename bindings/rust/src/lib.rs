@@ -1,8 +1,9 @@
 //! The check of packed images: one station (an enclave) or a whole line (a federate), over a pack, its batch text and its house text.
 //!
 //! Any three byte slices get an answer. One record of a line's pack can be tried ([`preview_record`]) and changed ([`change_record`]). A [`Tally`] counts
-//! answers of lines. The code behind it is proved (`crates/image_check`); what
-//! its boundary assumes is said in `bindings/c/image_check.h`, and a slice of Rust's brings all of it but the stack, [`STACK`] and [`CHANGE_STACK`].
+//! answers of lines, and [`convert_enclave`] and [`convert_federate`] turn the
+//! numbers of a pack round. The code behind it is proved (`crates/image_check`); what its boundary assumes is said in
+//! `bindings/c/image_check.h`, and a slice of Rust's brings all of it but the stack, [`STACK`] and [`CHANGE_STACK`].
 
 #[cfg(not(all(target_arch = "x86_64", target_os = "linux")))]
 compile_error!("libimage_check.a is for x86-64 Linux");
@@ -175,6 +176,22 @@ extern "C" {
         numbers: *mut [u64; 8],
     ) -> u32;
 
+    fn convert_enclave_image(
+        pack: *const u8,
+        pack_len: usize,
+        out: *mut u8,
+        out_len: usize,
+        numbers: *mut [u64; 8],
+    ) -> u32;
+
+    fn convert_federate_image(
+        pack: *const u8,
+        pack_len: usize,
+        out: *mut u8,
+        out_len: usize,
+        numbers: *mut [u64; 8],
+    ) -> u32;
+
     fn add_accepted_to_tally(tally: *mut Tally, links: u64, numbers: *mut [u64; 8]) -> u32;
     fn add_refused_to_tally(tally: *mut Tally, numbers: *mut [u64; 8]) -> u32;
     fn share_of_tally(tally: *const Tally, numbers: *mut [u64; 8]) -> u32;
@@ -269,17 +286,36 @@ pub fn mode_owner(pack: &[u8], batch: &[u8], house: &[u8], mode: u32) -> Owner {
     }
 }
 
+/// Writes a station's pack with every number turned round, from high byte first to low byte first or back, into the first bytes of `out`.
+/// The other bytes stay, and on a refusal all of them do: 1, 34 where `out` is shorter than the pack, 3 or 4.
+pub fn convert_enclave(pack: &[u8], out: &mut [u8]) -> Result<(), Refusal> {
+    convert(convert_enclave_image, pack, out)
+}
+
+/// The same for a line's pack.
+pub fn convert_federate(pack: &[u8], out: &mut [u8]) -> Result<(), Refusal> {
+    convert(convert_federate_image, pack, out)
+}
+
+type Converter = unsafe extern "C" fn(*const u8, usize, *mut u8, usize, *mut [u64; 8]) -> u32;
+
+fn convert(converter: Converter, pack: &[u8], out: &mut [u8]) -> Result<(), Refusal> {
+    let (p, p_len, o, o_len) = (pack.as_ptr(), pack.len(), out.as_mut_ptr(), out.len());
+    // SAFETY: each pointer has its own slice's length, nothing writes the pack while it is lent, and `out` and `written` are this call's alone.
+    done(written_by(|written| unsafe { converter(p, p_len, o, o_len, written) }))
+}
+
 impl Tally {
     /// Adds an accepted answer with its links, or leaves the tally as it was: 46, 40 or 44.
     pub fn add_accepted(&mut self, links: u64) -> Result<(), Refusal> {
         // SAFETY: the tally is this call's alone, and has the layout of the header's; `written` is this call's alone.
-        added(written_by(|written| unsafe { add_accepted_to_tally(self, links, written) }))
+        done(written_by(|written| unsafe { add_accepted_to_tally(self, links, written) }))
     }
 
     /// Adds a refused answer, or leaves the tally as it was: 46 or 40.
     pub fn add_refused(&mut self) -> Result<(), Refusal> {
         // SAFETY: as in `add_accepted`.
-        added(written_by(|written| unsafe { add_refused_to_tally(self, written) }))
+        done(written_by(|written| unsafe { add_refused_to_tally(self, written) }))
     }
 
     /// The share of answers that are accepted: 46, or 45 where there is no answer.
@@ -295,7 +331,7 @@ impl Tally {
     }
 }
 
-fn added(answer: Refusal) -> Result<(), Refusal> {
+fn done(answer: Refusal) -> Result<(), Refusal> {
     match answer.values {
         [0, ..] => Ok(()),
         _ => Err(answer),

@@ -2,7 +2,6 @@
 use Rattle.std.specs.Prelude.{ℕ, List, [], ◌∷◌, get_or, Result, Ok, Err}
 use Rattle.answers.specs.declared.Refusal.{Refusal}
 use Rattle.answers.specs.Numbers.{numbers}
-use Rattle.answers.specs.Checks.{Outcome}
 use Rattle.tally.specs.declared.Tally.{Tally}
 use Rattle.tally.specs.declared.Fraction.{Fraction}
 
@@ -11,11 +10,6 @@ tally_of ns = record { answers = get_or ns 0 0; accepted = get_or ns 1 0; links 
 
 abbrev pub tally_numbers : Tally → List ℕ
 tally_numbers t = t.answers ∷ t.accepted ∷ t.links ∷ []
-
--- 0 where an answer was added
-abbrev pub added_numbers : Outcome → List ℕ
-added_numbers (Ok u) = 0 ∷ []
-added_numbers (Err r) = numbers r
 
 -- 0 and a fraction
 abbrev pub fraction_numbers : Result Fraction Refusal → List ℕ

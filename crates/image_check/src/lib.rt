@@ -2,6 +2,7 @@
 #![tactic(auto)]
 
 pub mod changes;
+pub mod conversions;
 pub mod tallies;
 
 ghost use Rattle.std.specs.Prelude.{◌≤◌, length};
@@ -9,7 +10,7 @@ ghost use Rattle.enclave.specs.Answer.{enclave_answer};
 ghost use Rattle.federate.specs.Answer.{federate_numbers, federate_answer};
 ghost use Rattle.night.specs.Night.{night_answer};
 ghost use Rattle.mode_owner.specs.Owner.{owner_answer};
-ghost use Rattle.image_check.specs.Answered.{Answered};
+ghost use Rattle.image_check.specs.Answered.{Answered, outcome_numbers};
 
 use answers::Refusal;
 use enclave::check::check_enclave;
@@ -27,6 +28,16 @@ fn put(answer: &[u64], numbers: &mut [u64; 8]) -> u32
     *numbers = [0; 8];
     numbers[..answer.len()].copy_from_slice(answer);
     answer.len() as u32
+}
+
+// The numbers of what has no value to give: 0 alone, or the refusal's.
+fn put_outcome(outcome: Result<(), Refusal>, numbers: &mut [u64; 8]) -> u32
+    ensures { Answered (outcome_numbers outcome) result numbers.new }
+{
+    match outcome {
+        Ok(()) => put(&[0], numbers),
+        Err(refusal) => put(refusal.numbers().as_slice(), numbers),
+    }
 }
 
 // The answer for an enclave pack and its two texts: 0 and the links, or the refusal's numbers. The result is how many of `numbers` hold it.

@@ -3,10 +3,10 @@ ghost use Rattle.std.specs.Prelude.{◌≡◌};
 ghost use Rattle.tally.specs.declared.LineResult.TheVariants.{Accepted, Refused};
 ghost use Rattle.tally.specs.Tally.{add_answer, added};
 ghost use Rattle.tally.specs.Fractions.{share, mean};
-ghost use Rattle.image_check.specs.Answered.{Answered};
-ghost use Rattle.image_check.specs.Tallies.{tally_of, tally_numbers, added_numbers, fraction_numbers};
+ghost use Rattle.image_check.specs.Answered.{Answered, outcome_numbers};
+ghost use Rattle.image_check.specs.Tallies.{tally_of, tally_numbers, fraction_numbers};
 
-use crate::put;
+use crate::{put, put_outcome};
 use answers::Refusal;
 use tally::{Fraction, LineResult, Tally, add, mean, share};
 
@@ -22,16 +22,13 @@ fn tally_of(numbers: &[u64; 3]) -> Tally
 
 // Adds one answer to the three numbers, or leaves them as they were.
 fn add_line(tally: &mut [u64; 3], line: LineResult, numbers: &mut [u64; 8]) -> u32
-    ensures answer { Answered (added_numbers (add_answer (tally_of tally.old) line)) result numbers.new }
+    ensures answer { Answered (outcome_numbers (add_answer (tally_of tally.old) line)) result numbers.new }
     ensures tally { tally.new ≡ tally_numbers (added (tally_of tally.old) line) }
 {
     let mut kept = tally_of(tally);
     let added = add(&mut kept, line);
     *tally = [kept.answers, kept.accepted, kept.links];
-    match added {
-        Ok(()) => put(&[0], numbers),
-        Err(refusal) => put(refusal.numbers().as_slice(), numbers),
-    }
+    put_outcome(added, numbers)
 }
 
 fn put_fraction(answer: Result<Fraction, Refusal>, numbers: &mut [u64; 8]) -> u32
@@ -50,7 +47,7 @@ fn put_fraction(answer: Result<Fraction, Refusal>, numbers: &mut [u64; 8]) -> u3
 
 // Adds an accepted answer with its links: 0, or the refusal's number. The result is how many of `numbers` hold it.
 pub fn add_accepted_to_tally(tally: &mut [u64; 3], links: u64, numbers: &mut [u64; 8]) -> u32
-    ensures answer { Answered (added_numbers (add_answer (tally_of tally.old) (Accepted links))) result numbers.new }
+    ensures answer { Answered (outcome_numbers (add_answer (tally_of tally.old) (Accepted links))) result numbers.new }
     ensures tally { tally.new ≡ tally_numbers (added (tally_of tally.old) (Accepted links)) }
 {
     add_line(tally, LineResult::Accepted { links }, numbers)
@@ -58,7 +55,7 @@ pub fn add_accepted_to_tally(tally: &mut [u64; 3], links: u64, numbers: &mut [u6
 
 // Adds a refused answer: 0, or the refusal's number. The result is how many of `numbers` hold it.
 pub fn add_refused_to_tally(tally: &mut [u64; 3], numbers: &mut [u64; 8]) -> u32
-    ensures answer { Answered (added_numbers (add_answer (tally_of tally.old) Refused)) result numbers.new }
+    ensures answer { Answered (outcome_numbers (add_answer (tally_of tally.old) Refused)) result numbers.new }
     ensures tally { tally.new ≡ tally_numbers (added (tally_of tally.old) Refused) }
 {
     add_line(tally, LineResult::Refused, numbers)

@@ -1,19 +1,22 @@
 // The exports of image_check, for a host in another language: libimage_check.a.
 #![tactic(auto)]
 
-ghost use Rattle.std.specs.Prelude.{◌≡◌};
+ghost use Rattle.std.specs.Prelude.{◌≡◌, length};
+ghost use Rattle.answers.specs.Checks.{first};
 ghost use Rattle.enclave.specs.Answer.{enclave_answer};
 ghost use Rattle.federate.specs.Answer.{federate_answer};
 ghost use Rattle.night.specs.Night.{night_answer};
 ghost use Rattle.mode_owner.specs.Owner.{owner_answer};
 ghost use Rattle.change.specs.Change.{change_answer, pack_after};
+ghost use Rattle.convert.specs.Convert.{convert_checks, output_after};
 ghost use Rattle.tally.specs.declared.LineResult.TheVariants.{Accepted, Refused};
 ghost use Rattle.tally.specs.Tally.{add_answer, added};
 ghost use Rattle.tally.specs.Fractions.{share, mean};
-ghost use Rattle.image_check.specs.Answered.{Answered};
-ghost use Rattle.image_check.specs.Tallies.{tally_of, tally_numbers, added_numbers, fraction_numbers};
+ghost use Rattle.image_check.specs.Answered.{Answered, outcome_numbers};
+ghost use Rattle.image_check.specs.Tallies.{tally_of, tally_numbers, fraction_numbers};
 
-use image_check::{changes, tallies};
+use image_check::{changes, conversions, tallies};
+use packing::PackKind;
 
 // The answer for an enclave pack and its two texts; the result is how many of `numbers` hold it.
 #[unsafe(no_mangle)]
@@ -99,6 +102,32 @@ pub extern "C" fn change_record_of_line<'a>(
     changes::change_record_of_line(pack, batch, house, number, row, numbers)
 }
 
+// Turns every number of an enclave pack round, into the output; the result is how many of `numbers` hold the answer.
+#[unsafe(no_mangle)]
+pub extern "C" fn convert_enclave_image<'a>(
+    pack: &'a [u8],
+    out: &mut [u8],
+    numbers: &mut [u64; 8],
+) -> u32
+    ensures answer { Answered (outcome_numbers (first (convert_checks PackKind.Enclave pack.now (length out.old)))) result numbers.new }
+    ensures output { out.new ≡ output_after (first (convert_checks PackKind.Enclave pack.now (length out.old))) pack.now out.old }
+{
+    conversions::convert_image(PackKind::Enclave, pack, out, numbers)
+}
+
+// Turns every number of a federate pack round, into the output; the result is how many of `numbers` hold the answer.
+#[unsafe(no_mangle)]
+pub extern "C" fn convert_federate_image<'a>(
+    pack: &'a [u8],
+    out: &mut [u8],
+    numbers: &mut [u64; 8],
+) -> u32
+    ensures answer { Answered (outcome_numbers (first (convert_checks PackKind.Federate pack.now (length out.old)))) result numbers.new }
+    ensures output { out.new ≡ output_after (first (convert_checks PackKind.Federate pack.now (length out.old))) pack.now out.old }
+{
+    conversions::convert_image(PackKind::Federate, pack, out, numbers)
+}
+
 // Adds an accepted answer to a tally, with its links; the result is how many of `numbers` hold the answer.
 #[unsafe(no_mangle)]
 pub extern "C" fn add_accepted_to_tally(
@@ -106,7 +135,7 @@ pub extern "C" fn add_accepted_to_tally(
     links: u64,
     numbers: &mut [u64; 8],
 ) -> u32
-    ensures answer { Answered (added_numbers (add_answer (tally_of tally.old) (Accepted links))) result numbers.new }
+    ensures answer { Answered (outcome_numbers (add_answer (tally_of tally.old) (Accepted links))) result numbers.new }
     ensures tally { tally.new ≡ tally_numbers (added (tally_of tally.old) (Accepted links)) }
 {
     tallies::add_accepted_to_tally(tally, links, numbers)
@@ -115,7 +144,7 @@ pub extern "C" fn add_accepted_to_tally(
 // Adds a refused answer to a tally; the result is how many of `numbers` hold the answer.
 #[unsafe(no_mangle)]
 pub extern "C" fn add_refused_to_tally(tally: &mut [u64; 3], numbers: &mut [u64; 8]) -> u32
-    ensures answer { Answered (added_numbers (add_answer (tally_of tally.old) Refused)) result numbers.new }
+    ensures answer { Answered (outcome_numbers (add_answer (tally_of tally.old) Refused)) result numbers.new }
     ensures tally { tally.new ≡ tally_numbers (added (tally_of tally.old) Refused) }
 {
     tallies::add_refused_to_tally(tally, numbers)
