@@ -1,6 +1,6 @@
 //! This check by its binding for Rust, and its two tests of a text from their static library.
 use check::Answer;
-use image_check::{check_enclave, check_federate, check_federate_night};
+use image_check::{check_enclave, check_federate, check_federate_night, convert_enclave, convert_federate};
 use pack::corpus::{Case, Kind, NIGHT};
 
 extern "C" {
@@ -27,6 +27,15 @@ pub fn answer(case: &Case) -> Answer {
         }
         image_check::Answer::Refused(refusal) => Answer::Refused(refusal.numbers().to_vec()),
     }
+}
+
+/// The converter's refusal, or none where the output has the pack turned.
+pub fn convert(pack: &[u8], kind: Kind, output: &mut [u8]) -> Option<Vec<u64>> {
+    let convert = match kind {
+        Kind::Enclave => convert_enclave,
+        Kind::Federate => convert_federate,
+    };
+    convert(pack, output).err().map(|refusal| refusal.numbers().to_vec())
 }
 
 pub fn is_utf8(text: &[u8]) -> bool {

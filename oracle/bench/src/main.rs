@@ -1,6 +1,7 @@
 //! Measures boomerang's Rust and this check on the same packs: bench [FAMILY..] [--quick]
 mod chance;
 mod changes;
+mod convert;
 mod deadlines;
 mod decode;
 mod edges;
@@ -32,6 +33,7 @@ use std::process::ExitCode;
 const TEXTS: &str = "texts";
 const NIGHT: &str = "night";
 const CHANGES: &str = "changes";
+const CONVERT: &str = "convert";
 
 struct Options {
     names: Vec<String>,
@@ -42,7 +44,7 @@ impl Options {
     fn read() -> Option<Self> {
         let (options, names): (Vec<_>, Vec<_>) =
             std::env::args().skip(1).partition(|word| word.starts_with('-'));
-        let own = [TEXTS, NIGHT, CHANGES];
+        let own = [TEXTS, NIGHT, CHANGES, CONVERT];
         let known = |name: &String| own.contains(&name.as_str()) || FAMILIES.iter().any(|family| family.name == *name);
         let understood = options.iter().all(|option| option == "--quick") && names.iter().all(known);
         understood.then_some(Options { names, quick: !options.is_empty() })
@@ -62,7 +64,7 @@ impl Options {
 
 fn main() -> ExitCode {
     let Some(options) = Options::read() else {
-        eprintln!("bench [FAMILY..] [--quick], a family being {NIGHT}, {TEXTS}, {CHANGES} or one of:");
+        eprintln!("bench [FAMILY..] [--quick], a family being {NIGHT}, {TEXTS}, {CHANGES}, {CONVERT} or one of:");
         FAMILIES.iter().for_each(|family| eprintln!("  {:<21} {}", family.name, family.about));
         return ExitCode::from(2);
     };
@@ -76,6 +78,9 @@ fn main() -> ExitCode {
     }
     if options.takes(NIGHT) {
         agreed &= night::run(options.quick, options.effort());
+    }
+    if options.takes(CONVERT) {
+        agreed &= convert::run(options.effort(), options.quick);
     }
     if options.takes(TEXTS) {
         agreed &= texts::run(options.effort());

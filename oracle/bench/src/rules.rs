@@ -48,8 +48,7 @@ impl Asked {
 
 /// The refusal's numbers, or none where the pack keeps the rules. UTF-8 is asked where the tables are read.
 pub fn refusal(case: &Case) -> Option<[u64; 2]> {
-    let length = case.pack.len();
-    if length == 0 || length > PACK_LIMIT || length % RECORD != 0 {
+    if !fits(&case.pack) {
         return Some([1, 0]);
     }
     if let Some(text) = [&case.batch, &case.house].iter().position(|text| text.len() > TEXT_LIMIT) {
@@ -67,14 +66,45 @@ pub fn refusal(case: &Case) -> Option<[u64; 2]> {
     None
 }
 
-fn of_record(asked: &[Asked], kind: Kind, before: Option<u8>, record: &Record, case: &Case) -> Option<u64> {
-    let Some(asked) = asked.get(record[0] as usize).filter(|_| in_place(kind, before, record[0])) else {
-        return Some(3);
-    };
-    if !clean(asked, record) {
-        return Some(4);
+/// Whether there are whole records, one at least and not too many.
+pub fn fits(pack: &[u8]) -> bool {
+    !pack.is_empty() && pack.len() <= PACK_LIMIT && pack.len() % RECORD == 0
+}
+
+/// The same for table order and stray bytes alone, 3 and 4, of a pack that fits.
+pub fn shape_refusal(pack: &[u8], kind: Kind) -> Option<[u64; 2]> {
+    let asked = &*ASKED;
+    let mut before = None;
+    for (at, record) in pack.as_chunks::<RECORD>().0.iter().enumerate() {
+        if let Err(number) = shape_of(asked, kind, before, record) {
+            return Some([number, at as u64]);
+        }
+        before = Some(record[0]);
     }
-    (!(0..asked.identities).all(|number| inside(record, number, case))).then_some(5)
+    None
+}
+
+fn of_record(asked: &[Asked], kind: Kind, before: Option<u8>, record: &Record, case: &Case) -> Option<u64> {
+    match shape_of(asked, kind, before, record) {
+        Err(number) => Some(number),
+        Ok(asked) => (!(0..asked.identities).all(|number| inside(record, number, case))).then_some(5),
+    }
+}
+
+/// What is asked of the record's table, where it is in its place and clean.
+#[inline(always)]
+fn shape_of<'a>(
+    asked: &'a [Asked],
+    kind: Kind,
+    before: Option<u8>,
+    record: &Record,
+) -> Result<&'a Asked, u64> {
+    let table = asked.get(record[0] as usize).filter(|_| in_place(kind, before, record[0])).ok_or(3_u64)?;
+    if clean(table, record) {
+        Ok(table)
+    } else {
+        Err(4)
+    }
 }
 
 fn in_place(kind: Kind, before: Option<u8>, table: u8) -> bool {
