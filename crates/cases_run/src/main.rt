@@ -1,8 +1,9 @@
 // The papers' lines tried by hand, and document 01's misreadings: packs from rows, a line for each with the check's answer;
-// lines at night, records that are changed, and tallies.
+// lines at night, records that are changed, conversions, and tallies.
 #![tactic(auto)]
 
 mod changes;
+mod conversions;
 mod enclaves;
 mod federates;
 mod nights;
@@ -19,6 +20,7 @@ fn main(rt: HostRuntime) -> Result<()> {
     federates::cases(&rt)?;
     nights::cases(&rt)?;
     owners::cases(&rt)?;
+    conversions::cases(&rt)?;
     tallies::cases(&rt)?;
     changes::cases(&rt)
 }
