@@ -1,6 +1,6 @@
 // The case of a record that is changed or tried: its pack is lent to be written, and stands on the line as it then is.
 use crate::answer::Answer;
-use crate::input::{ReadError, Room, keep, read_u32, take};
+use crate::input::{ReadError, Room, keep, read_lent, read_u32, take};
 use change::{change_record, preview_record};
 use std::io::Read;
 
@@ -34,21 +34,20 @@ pub fn read_change<'a, R: Read>(
         pack,
         batch,
         house,
-        row,
+        lent,
     } = room;
     let kept = keep(input, pack, pack_len)?;
     let batch = take(input, batch, batch_len)?;
     let house = take(input, house, house_len)?;
     let number = read_u32(input)?;
-    let row_len = read_u32(input)?;
-    let row = take(input, row, row_len)?;
+    let row_len = read_lent(input, lent)?;
     Ok(ChangeCase {
         writes,
         pack: &mut pack[..kept],
         batch,
         house,
         number,
-        row,
+        row: &lent[..row_len],
     })
 }
 

@@ -1,7 +1,7 @@
 // The case of a tally: its steps are read to their end, since a line says nothing of a case that is cut off, and then answered one by one.
 ghost use Rattle.std.specs.Prelude.{◌≤◌, length, IfOk};
 
-use crate::input::{ReadError, pass_over, read_u32, read_u64};
+use crate::input::{ReadError, pass_over_parts, read_u32, read_u64};
 use answers::Refusal;
 use std::fmt;
 use std::io::Read;
@@ -68,12 +68,7 @@ pub fn read_tally<'a, R: Read>(
     input: &mut R,
     room: &'a mut [u8],
 ) -> Result<TallyCase<'a>, ReadError> {
-    let pack_len = read_u32(input)?;
-    let batch_len = read_u32(input)?;
-    let house_len = read_u32(input)?;
-    pass_over(input, pack_len as usize)?;
-    pass_over(input, batch_len as usize)?;
-    pass_over(input, house_len as usize)?;
+    pass_over_parts(input)?;
     let tally = Tally {
         answers: read_u64(input)?,
         accepted: read_u64(input)?,
