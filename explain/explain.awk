@@ -84,6 +84,7 @@ function refused(n) {
   if (n <= 28) return of_routes(n)
   if (n <= 31) return of_the_night(n)
   if (n <= 37) return of_hosts(n)
+  if (n == 38 || (n >= 41 && n <= 43)) return of_trees(n)
   return n <= 39 ? of_deadlines(n) : of_tallies(n)
 }
 
@@ -154,6 +155,14 @@ function of_hosts(n) {
   if (n == 36) return "The record to be put in is not 64 bytes long."
   if (n == 37) return "The record to be put in is of another table than the record in its place."
   return ""
+}
+
+function of_trees(n) {
+  if (!has(0)) return ""
+  if (n == 38) return "Tables of parents are listed for 1 to 4 scopes."
+  if (n == 41) return "The table of parents has not one byte for each scope."
+  if (n == 42) return "A byte of the table of parents is above the number of scopes."
+  return "The table is none of a tree: a chain of parents does not end."
 }
 
 function of_deadlines(n) {

@@ -8,7 +8,7 @@ use lib.Dec.{eqb}
 use lib.ListN.{length, get_or}
 use borrow.Author.Tests.{eqb-false}
 use Rattle.answers.specs.declared.Refusal.{Refusal}
-use Rattle.answers.specs.declared.Refusal.TheVariants.{Length, TextTooLong, TableOutOfPlace, StrayByte, IdentityOutside, NotUtf8, ReferenceOutOfBounds, RangeOutOfBounds, RangesNotMonotonic, EntriesNotSorted, DuplicateEntry, OwnershipMismatch, ScopeParentCycle, InvalidStableId, StableIdsNotSorted, DuplicateStableId, InvalidBankInfo, StorageBoundExceeded, BindingKindMismatch, BindingPresenceMismatch, DuplicateRouteHalf, RoutePairMismatch, UnpairedRoute, PhysicalRoute, ScopeTooDeep, TooManyReactors, OutputTooShort, NoSuchRecord, RecordLength, TableChanges, ZeroDeadline, TallyFull, LinkSumTooLarge, NothingToDivide, NoSuchTally}
+use Rattle.answers.specs.declared.Refusal.TheVariants.{Length, TextTooLong, TableOutOfPlace, StrayByte, IdentityOutside, NotUtf8, ReferenceOutOfBounds, RangeOutOfBounds, RangesNotMonotonic, EntriesNotSorted, DuplicateEntry, OwnershipMismatch, ScopeParentCycle, InvalidStableId, StableIdsNotSorted, DuplicateStableId, InvalidBankInfo, StorageBoundExceeded, BindingKindMismatch, BindingPresenceMismatch, DuplicateRouteHalf, RoutePairMismatch, UnpairedRoute, PhysicalRoute, ScopeTooDeep, TooManyReactors, OutputTooShort, NoSuchRecord, RecordLength, TableChanges, ScopeCount, ZeroDeadline, TallyFull, ParentsLength, ParentOutside, NotATree, LinkSumTooLarge, NothingToDivide, NoSuchTally}
 use Rattle.answers.specs.Numbers.{numbers}
 
 abbrev Shaped : List ℕ → Type 0
@@ -46,8 +46,12 @@ shaped OutputTooShort = (omega arith, omega arith, refl)
 shaped NoSuchRecord = (omega arith, omega arith, refl)
 shaped RecordLength = (omega arith, omega arith, refl)
 shaped TableChanges = (omega arith, omega arith, refl)
+shaped ScopeCount = (omega arith, omega arith, refl)
 shaped (ZeroDeadline index) = (omega arith, omega arith, refl)
 shaped TallyFull = (omega arith, omega arith, refl)
+shaped ParentsLength = (omega arith, omega arith, refl)
+shaped ParentOutside = (omega arith, omega arith, refl)
+shaped NotATree = (omega arith, omega arith, refl)
 shaped LinkSumTooLarge = (omega arith, omega arith, refl)
 shaped NothingToDivide = (omega arith, omega arith, refl)
 shaped NoSuchTally = (omega arith, omega arith, refl)

@@ -5,7 +5,7 @@ use Rattle.schema.specs.Records.{direction_number}
 use Rattle.answers.specs.declared.field.RowField.{RowField}
 use Rattle.answers.specs.declared.id.StableId.{StableId}
 use Rattle.answers.specs.declared.Refusal.{Refusal}
-use Rattle.answers.specs.declared.Refusal.TheVariants.{Length, TextTooLong, TableOutOfPlace, StrayByte, IdentityOutside, NotUtf8, ReferenceOutOfBounds, RangeOutOfBounds, RangesNotMonotonic, EntriesNotSorted, DuplicateEntry, OwnershipMismatch, ScopeParentCycle, InvalidStableId, StableIdsNotSorted, DuplicateStableId, InvalidBankInfo, StorageBoundExceeded, BindingKindMismatch, BindingPresenceMismatch, DuplicateRouteHalf, RoutePairMismatch, UnpairedRoute, PhysicalRoute, ScopeTooDeep, TooManyReactors, OutputTooShort, NoSuchRecord, RecordLength, TableChanges, ZeroDeadline, TallyFull, LinkSumTooLarge, NothingToDivide, NoSuchTally}
+use Rattle.answers.specs.declared.Refusal.TheVariants.{Length, TextTooLong, TableOutOfPlace, StrayByte, IdentityOutside, NotUtf8, ReferenceOutOfBounds, RangeOutOfBounds, RangesNotMonotonic, EntriesNotSorted, DuplicateEntry, OwnershipMismatch, ScopeParentCycle, InvalidStableId, StableIdsNotSorted, DuplicateStableId, InvalidBankInfo, StorageBoundExceeded, BindingKindMismatch, BindingPresenceMismatch, DuplicateRouteHalf, RoutePairMismatch, UnpairedRoute, PhysicalRoute, ScopeTooDeep, TooManyReactors, OutputTooShort, NoSuchRecord, RecordLength, TableChanges, ScopeCount, ZeroDeadline, TallyFull, ParentsLength, ParentOutside, NotATree, LinkSumTooLarge, NothingToDivide, NoSuchTally}
 use Rattle.answers.specs.Fields.{field_number, kind_number}
 
 abbrev pub bit : Bool → ℕ
@@ -53,8 +53,12 @@ numbers OutputTooShort = 34 ∷ []
 numbers NoSuchRecord = 35 ∷ []
 numbers RecordLength = 36 ∷ []
 numbers TableChanges = 37 ∷ []
+numbers ScopeCount = 38 ∷ []
 numbers (ZeroDeadline index) = 39 ∷ index ∷ []
 numbers TallyFull = 40 ∷ []
+numbers ParentsLength = 41 ∷ []
+numbers ParentOutside = 42 ∷ []
+numbers NotATree = 43 ∷ []
 numbers LinkSumTooLarge = 44 ∷ []
 numbers NothingToDivide = 45 ∷ []
 numbers NoSuchTally = 46 ∷ []

@@ -18,7 +18,7 @@ use std::fmt;
 
 // One variant for each refusal of document 01 that a pack can have (all but 11), named as the Rust names it, with its values one by one as the Rust has
 // them, and then those of document 02, in their order; 1 to 6 are the packing rules', 26 and
-// 29 to 31 the night's, 34 the converter's, 35 to 37 a change's, 40 and 44 to 46 a tally's.
+// 29 to 31 the night's, 34 the converter's, 35 to 37 a change's, 38 and 41 to 43 those of small scope trees, 40 and 44 to 46 a tally's.
 // Which text is too long is shown by the bit that tells an identity's text, 0 for the batch and 1 for the house.
 #[derive(Clone, Copy, Debug)]
 pub enum Refusal {
@@ -123,10 +123,14 @@ pub enum Refusal {
     NoSuchRecord,
     RecordLength,
     TableChanges,
+    ScopeCount,
     ZeroDeadline {
         index: u32,
     },
     TallyFull,
+    ParentsLength,
+    ParentOutside,
+    NotATree,
     LinkSumTooLarge,
     NothingToDivide,
     NoSuchTally,
@@ -259,8 +263,12 @@ impl Refusal {
             Refusal::NoSuchRecord => listed(&[35]),
             Refusal::RecordLength => listed(&[36]),
             Refusal::TableChanges => listed(&[37]),
+            Refusal::ScopeCount => listed(&[38]),
             Refusal::ZeroDeadline { index } => listed(&[39, u64::from(index)]),
             Refusal::TallyFull => listed(&[40]),
+            Refusal::ParentsLength => listed(&[41]),
+            Refusal::ParentOutside => listed(&[42]),
+            Refusal::NotATree => listed(&[43]),
             Refusal::LinkSumTooLarge => listed(&[44]),
             Refusal::NothingToDivide => listed(&[45]),
             Refusal::NoSuchTally => listed(&[46]),

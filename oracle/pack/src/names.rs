@@ -76,7 +76,7 @@ const fn refusal(number: u64, name: &'static str, values: &'static [Value]) -> R
 
 const IDENTITY: &[Value] = &[Kind, INDEX, BIT, START, LENGTH];
 
-pub const REFUSALS: [Refusal; 35] = [
+pub const REFUSALS: [Refusal; 39] = [
     refusal(1, "length of the pack", &[]),
     refusal(2, "text too long", &[Plain("text")]),
     refusal(3, "table number unknown or out of place", &[RECORD]),
@@ -107,8 +107,12 @@ pub const REFUSALS: [Refusal; 35] = [
     refusal(35, "NoSuchRecord", &[]),
     refusal(36, "RecordLength", &[]),
     refusal(37, "TableChanges", &[]),
+    refusal(38, "ScopeCount", &[]),
     refusal(39, "ZeroDeadline", &[INDEX]),
     refusal(40, "TallyFull", &[]),
+    refusal(41, "ParentsLength", &[]),
+    refusal(42, "ParentOutside", &[]),
+    refusal(43, "NotATree", &[]),
     refusal(44, "LinkSumTooLarge", &[]),
     refusal(45, "NothingToDivide", &[]),
     refusal(46, "NoSuchTally", &[]),
