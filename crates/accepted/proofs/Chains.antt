@@ -3,6 +3,7 @@ use Prim.Native.Nat.{ℕ, zero, suc, ◌+◌, ◌<◌, ◌≤◌}
 use mathlib.Core.Path.{◌≡◌, refl, sym, ap, ◌∙◌}
 use native.Mathlib.Omega.{arith}
 use Rattle.std.specs.Prelude.{Option, Some, None}
+use Rattle.identity.proofs.Tests.{below_or_not}
 use Rattle.answers.proofs.Passed.{below}
 use Rattle.schema.specs.Indexes.{ScopeIndex}
 use Rattle.checks.specs.Image.{Image}
@@ -66,13 +67,20 @@ module _ (parent : ℕ → Option ScopeIndex) where
   ancestor_climb zero i = refl
   ancestor_climb (suc k) i = ap (above parent) (ancestor_climb k i)
 
-  chain_ends : (n i : ℕ) → links_of parent n i < n → ancestor parent (suc (links_of parent n i)) i ≡ None
+  pub chain_ends : (n i : ℕ) → links_of parent n i < n → ancestor parent (suc (links_of parent n i)) i ≡ None
   chain_ends n i l = ancestor_climb (links_of parent n i) i ∙ climb_ends n (parent i) l
 
-  not_before : (n i k : ℕ) → ancestor parent k i ≡ None → links_of parent n i < k
+  pub not_before : (n i k : ℕ) → ancestor parent k i ≡ None → links_of parent n i < k
   unfolding ancestor
   not_before n i zero e = let z : ◌≡◌ {A = ℕ} 0 1 = cc in absurd (omega arith)
   not_before n i (suc k) e = let a = climb_on n k (parent i) (sym (ancestor_climb k i) ∙ e) in omega arith
+
+  -- where k links lead to none, so do more
+  pub none_stays : (i k n : ℕ) → k ≤ n → ancestor parent k i ≡ None → ancestor parent n i ≡ None
+  unfolding ancestor
+  none_stays i k zero l e = let z : k ≡ 0 = omega arith in rw z at e
+  none_stays i k (suc n) l e =
+      below_or_not n k (λ m. let z : k ≡ suc n = omega arith in rw z at e) (λ m. rw (none_stays i k n m e) refl)
 
 -- the links are a sum
 links_total : (parent : ℕ → Option ScopeIndex) (n k : ℕ) → links_below parent n k ≡ total (links_of parent n) k

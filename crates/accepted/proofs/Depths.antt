@@ -67,6 +67,16 @@ module _ (d : ℕ → ℕ) (n : ℕ) where
               )
         ]
 
+    -- and no depth is n or more
+    pub depth_few : (i : ℕ) → i < n → d i < n
+    depth_few i l =
+        let a = total_has (λ j. at_least (d i) (d j)) n i l in
+        let b = reach_few (d i) in
+        below (d i) (reach (d i)) a b
+      where
+        below : (x r : ℕ) → at_least x x ≤ r → r ≤ n - x → x < n
+        below x r u v = omega arith
+
     over_sum : (k : ℕ) → over 0 ≤ total (λ t. n - suc t) k + over k
     unfolding total
     over_sum zero = omega arith
