@@ -1,0 +1,3 @@
+pub mod Trees
+pub mod Answer
+pub mod Promises
