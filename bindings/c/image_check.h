@@ -123,6 +123,24 @@ uint32_t share_of_tally(const struct line_tally *tally, uint64_t *numbers);
 
 uint32_t mean_of_tally(const struct line_tally *tally, uint64_t *numbers);
 
+/* The legal tables of parents of 1 to 4 scopes: the first, and the next after a given one. A table has a byte for each scope: 0 for no parent, p + 1 for
+ * parent p. It is legal where no chain of parents goes on for ever. The legal tables rise as numbers in base count + 1, scope 0 leading; there are 1, 3, 16
+ * and 125 of them.
+ *
+ * The table stands in the lent bytes `table`, which are as many as the scopes, and the answer replaces it. What the bytes held before first_scope_tree does
+ * not matter. The result says how many of `numbers` hold the answer, 1 or 2; the others of the eight are set to 0.
+ *   numbers[0] is 0 and numbers[1] 1: the bytes are the table. numbers[0] and numbers[1] are 0: the given table is the last (next_scope_tree only).
+ *   numbers[0] is not 0: refused. 38 the count is not one of 1 to 4; then 41 table_len is not the count; then, of the next only, 42 a byte is over the count;
+ *   then 43 the table is not legal. At the end and on refusal the bytes are as they were.
+ *
+ * Proved, for any count and any bytes: the call ends, these are the numbers and this the result, these are the bytes after it, and it writes nothing but
+ * them and the eight numbers. What is said above of calls, numbers and the stack holds here too. Assumed of the host: table points to table_len bytes, all
+ * of them set, that may be read and written; with length 0 it may be NULL or point anywhere. They do not overlap numbers, and nothing else reads or writes
+ * them before the call returns. */
+uint32_t first_scope_tree(uint32_t count, uint8_t *table, size_t table_len, uint64_t *numbers);
+
+uint32_t next_scope_tree(uint32_t count, uint8_t *table, size_t table_len, uint64_t *numbers);
+
 #ifdef __cplusplus
 }
 #endif

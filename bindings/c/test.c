@@ -9,7 +9,7 @@
 #include "image_check.h"
 
 /* The kinds of question. */
-enum { STATION = 0, LINE = 1, NIGHT = 2, OWNER = 6, CONVERT = 7, CHANGE = 8, PREVIEW = 9, TALLY = 12 };
+enum { STATION = 0, LINE = 1, NIGHT = 2, OWNER = 6, CONVERT = 7, CHANGE = 8, PREVIEW = 9, FIRST_TREE = 10, NEXT_TREE = 11, TALLY = 12 };
 
 /* The most bytes that a case lends. */
 enum { MOST_LENT = 65536 };
@@ -238,6 +238,39 @@ static int answer_conversion(const uint8_t *pack, size_t p, int null_if_empty, i
     return whole && known;
 }
 
+/* Asks for the first tree or for the next, of so many scopes, and prints its line. */
+static void print_tree(uint8_t kind, uint32_t scopes, uint8_t *table, size_t n)
+{
+    uint64_t *numbers = exactly(8 * sizeof *numbers);
+    uint32_t count;
+    memset(numbers, 0xA5, 8 * sizeof *numbers);
+    count = kind == FIRST_TREE ? first_scope_tree(scopes, table, n, numbers) : next_scope_tree(scopes, table, n, numbers);
+    if (count != (numbers[0] == 0 ? 2 : 1))
+        die("the result is not that of a scope tree's answer");
+    for (uint32_t i = count; i < 8; i++)
+        if (numbers[i] != 0)
+            die("a number after the answer is not 0");
+    if (numbers[0] != 0)
+        printf("refused %" PRIu64, numbers[0]);
+    else
+        fputs(numbers[1] != 0 ? "table" : "end", stdout);
+    print_bytes(table, n);
+    free(numbers);
+}
+
+/* Answers what is asked of scope trees, once its lent bytes are read; 0 where the run ends with it. */
+static int answer_tree(uint8_t kind, int null_if_empty, int whole)
+{
+    uint32_t scopes = next_word(&whole);
+    int known = 1;
+    size_t n;
+    uint8_t *table = next_lent(&n, null_if_empty, &whole, &known);
+    if (!ends(whole, known))
+        print_tree(kind, scopes, table, n);
+    free(table);
+    return whole && known;
+}
+
 /* Answers one case whose first 13 bytes are `head`; 0 where the run ends with it. */
 static int answer_case(const uint8_t *head, int null_if_empty)
 {
@@ -255,6 +288,8 @@ static int answer_case(const uint8_t *head, int null_if_empty)
         whole = answer_change(head, pack, batch, house, null_if_empty, whole);
     else if (head[0] == CONVERT)
         whole = answer_conversion(pack, p, null_if_empty, whole);
+    else if (head[0] == FIRST_TREE || head[0] == NEXT_TREE)
+        whole = answer_tree(head[0], null_if_empty, whole);
     else if (!whole)
         puts("cut off");
     else if (head[0] == STATION)

@@ -1,7 +1,7 @@
 //! Answers a corpus on standard input as the program `replay` does (oracle/README.md has the format).
 use image_check::{
     
-    change_record, check_enclave, check_federate, check_federate_night, convert_enclave, convert_federate, mode_owner, preview_record, Fraction, Refusal, Tally,
+    change_record, check_enclave, check_federate, check_federate_night, convert_enclave, convert_federate, first_tree, mode_owner, preview_record, next_tree, Fraction, Next, Refusal, Tally,
 };
 use std::io::{self, Read, Write};
 
@@ -91,6 +91,26 @@ fn digits(bytes: &[u8]) -> String {
     bytes.iter().map(|byte| format!("{byte:02x}")).collect()
 }
 
+/// The bytes that a case lends, at most.
+const MOST_LENT: usize = 65_536;
+
+/// The line of a scope tree, or nothing where the input ends inside it.
+fn tree(kind: u8, rest: &mut &[u8]) -> Option<String> {
+    let (count, lent) = (number(rest)?, length(rest)?);
+    if lent > MOST_LENT {
+        return Some(UNKNOWN_KIND.to_string());
+    }
+    let mut table = take(rest, lent)?;
+    let answer = if kind == 10 {
+        first_tree(count, &mut table).map(|()| Next::Table)
+    } else {
+        next_tree(count, &mut table)
+    };
+    let answer = answer.map_or_else(|refusal| refusal.to_string(), |next| next.to_string());
+    let digits: String = table.iter().map(|byte| format!("{byte:02x}")).collect();
+    Some(format!("{answer} | {}", if digits.is_empty() { "-" } else { &digits }))
+}
+
 /// The line of the next case, or nothing where the input ends inside it.
 fn next(rest: &mut &[u8]) -> Option<String> {
     let kind = take(rest, 1)?[0];
@@ -105,6 +125,7 @@ fn next(rest: &mut &[u8]) -> Option<String> {
         6 => mode_owner(&pack, &batch, &house, number(rest)?).to_string(),
         8 | 9 => change(kind, pack, [&batch, &house], rest)?,
         7 => conversion(&pack, rest)?,
+        10 | 11 => tree(kind, rest)?,
         12 => tally(rest)?,
         _ => UNKNOWN_KIND.to_string(),
     })

@@ -2,7 +2,8 @@
 //!
 //! Any three byte slices get an answer. One record of a line's pack can be tried ([`preview_record`]) and changed ([`change_record`]). A [`Tally`] counts
 //! answers of lines, and [`convert_enclave`] and [`convert_federate`] turn the
-//! numbers of a pack round. The code behind it is proved (`crates/image_check`); what its boundary assumes is said in
+//! numbers of a pack round; [`first_tree`] and [`next_tree`] list the small
+//! tables of parents. The code behind it is proved (`crates/image_check`); what its boundary assumes is said in
 //! `bindings/c/image_check.h`, and a slice of Rust's brings all of it but the stack, [`STACK`] and [`CHANGE_STACK`].
 
 #[cfg(not(all(target_arch = "x86_64", target_os = "linux")))]
@@ -98,6 +99,24 @@ pub struct Tally {
 pub struct Fraction {
     pub numerator: u64,
     pub denominator: u64,
+}
+
+/// What was asked for: a table, or that none is left. It is shown in the words of the program `replay`.
+#[derive(Clone, Copy, Debug, PartialEq, Eq)]
+pub enum Next {
+    /// The lent bytes are the next table.
+    Table,
+    /// The given table is the last; the lent bytes are as they were.
+    End,
+}
+
+impl fmt::Display for Next {
+    fn fmt(&self, f: &mut fmt::Formatter<'_>) -> fmt::Result {
+        match self {
+            Next::Table => write!(f, "table"),
+            Next::End => write!(f, "end"),
+        }
+    }
 }
 
 impl fmt::Display for Fraction {
@@ -196,6 +215,9 @@ extern "C" {
     fn add_refused_to_tally(tally: *mut Tally, numbers: *mut [u64; 8]) -> u32;
     fn share_of_tally(tally: *const Tally, numbers: *mut [u64; 8]) -> u32;
     fn mean_of_tally(tally: *const Tally, numbers: *mut [u64; 8]) -> u32;
+
+    fn first_scope_tree(count: u32, table: *mut u8, table_len: usize, numbers: *mut [u64; 8]) -> u32;
+    fn next_scope_tree(count: u32, table: *mut u8, table_len: usize, numbers: *mut [u64; 8]) -> u32;
 }
 
 /// What a check wrote: how many numbers, and the numbers.
@@ -343,4 +365,29 @@ fn fraction(answer: Refusal) -> Result<Fraction, Refusal> {
         [0, numerator, denominator, ..] => Ok(Fraction { numerator, denominator }),
         _ => Err(answer),
     }
+}
+
+type Trees = unsafe extern "C" fn(u32, *mut u8, usize, *mut [u64; 8]) -> u32;
+
+/// What was asked of scope trees: whether the bytes were given a table.
+fn tree(ask: Trees, count: u32, table: &mut [u8]) -> Result<Next, Refusal> {
+    // SAFETY: the pointer has its slice's length, the slice is this call's alone, and so is `written`.
+    let refusal = written_by(|written| unsafe { ask(count, table.as_mut_ptr(), table.len(), written) });
+    match refusal.values {
+        [0, 0, ..] => Ok(Next::End),
+        [0, ..] => Ok(Next::Table),
+        _ => Err(refusal),
+    }
+}
+
+/// Puts the first legal table of parents of so many scopes into `table`, whatever it held, or leaves it as it was: 38 or 41. A table has a byte for each of
+/// 1 to 4 scopes: 0 for no parent, p + 1 for parent p. It is legal where no chain of parents goes on for ever.
+pub fn first_tree(count: u32, table: &mut [u8]) -> Result<(), Refusal> {
+    tree(first_scope_tree, count, table).map(|_| ())
+}
+
+/// Puts the next legal table after the one in `table` in its place, or leaves it as it was: at the end, and for 38, 41, 42 or 43. The legal tables rise
+/// as numbers in base `count` + 1, scope 0 leading.
+pub fn next_tree(count: u32, table: &mut [u8]) -> Result<Next, Refusal> {
+    tree(next_scope_tree, count, table)
 }

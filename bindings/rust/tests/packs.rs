@@ -1,8 +1,9 @@
 //! A few packs by hand, and large ones on a stack of `STACK` bytes.
 use image_check::{
-    change_record, check_enclave, check_federate, check_federate_night, mode_owner, preview_record,
+    change_record, check_enclave, check_federate, check_federate_night, first_tree, mode_owner, next_tree,
+    preview_record,
 };
-use image_check::{Answer, Fraction, Owner, Tally, CHANGE_STACK, STACK};
+use image_check::{Answer, Fraction, Next, Owner, Tally, CHANGE_STACK, STACK};
 
 /// A record: its table, its bytes 1 and 2, and the words from byte 4 on.
 fn record(table: u8, bits: [u8; 2], words: &[u32]) -> Vec<u8> {
@@ -175,6 +176,69 @@ fn try_tallies() {
 #[test]
 fn tallies() {
     on_small_stack(try_tallies);
+}
+
+/// All tables that the first and then the next give, to the end.
+fn listed(count: u32) -> Vec<Vec<u8>> {
+    let mut table = vec![0xA5; count as usize];
+    let mut tables = vec![];
+    assert_eq!(first_tree(count, &mut table), Ok(()));
+    loop {
+        tables.push(table.clone());
+        match next_tree(count, &mut table) {
+            Ok(Next::Table) => {}
+            end => {
+                assert_eq!((end, &table), (Ok(Next::End), &tables[tables.len() - 1]));
+                return tables;
+            }
+        }
+    }
+}
+
+fn try_trees() {
+    assert_eq!([1, 2, 3, 4].map(|count| listed(count).len()), [1, 3, 16, 125]);
+    assert_eq!(listed(2), [[0, 0], [0, 1], [2, 0]]);
+    assert!((1..=4).all(|count| listed(count).is_sorted_by(|one, next| one < next)));
+    assert_eq!(listed(4)[124], [4, 4, 4, 0]);
+    let refused = |count, table: &[u8]| {
+        let mut lent = table.to_vec();
+        let number = next_tree(count, &mut lent).unwrap_err().number();
+        assert_eq!(lent, table);
+        number
+    };
+    assert_eq!((refused(0, &[]), refused(5, &[9; 5]), refused(u32::MAX, &[])), (38, 38, 38));
+    assert_eq!((refused(2, &[3, 0, 0]), refused(1, &[])), (41, 41));
+    assert_eq!((refused(2, &[1, 3]), refused(2, &[2, 1]), refused(1, &[1])), (42, 43, 43));
+    let mut lent = [7; 5];
+    assert_eq!(first_tree(5, &mut lent).unwrap_err().to_string(), "refused 38");
+    assert_eq!((first_tree(4, &mut lent).unwrap_err().number(), lent), (41, [7; 5]));
+}
+
+#[test]
+fn scope_trees() {
+    on_small_stack(try_trees);
+}
+
+/// Every table of 1 to 4 bytes that are not over their number, in S: accepted where next takes it, and else refused by 18.
+#[test]
+fn scope_trees_in_s() {
+    for count in 1..=4_u32 {
+        let mut accepted = vec![];
+        for number in 0..(count + 1).pow(count) {
+            let table: Vec<u8> =
+                (0..count).rev().map(|i| (number / (count + 1).pow(i) % (count + 1)) as u8).collect();
+            let scopes = table
+                .iter()
+                .map(|byte| record(7, [(*byte > 0) as u8, 0], &[u32::from(*byte).saturating_sub(1)]));
+            let s = station(1, 0);
+            let pack = [&s[..128], &scopes.collect::<Vec<_>>().concat(), &s[128..]].concat();
+            match check_enclave(&pack, b"ab", b"") {
+                Answer::Enclave { .. } => accepted.push(table),
+                refused => assert!(refused.to_string().starts_with("refused 18 "), "{table:?}: {refused}"),
+            }
+        }
+        assert_eq!(accepted, listed(count));
+    }
 }
 
 #[test]

@@ -14,8 +14,10 @@ ghost use Rattle.tally.specs.Tally.{add_answer, added};
 ghost use Rattle.tally.specs.Fractions.{share, mean};
 ghost use Rattle.image_check.specs.Answered.{Answered, outcome_numbers};
 ghost use Rattle.image_check.specs.Tallies.{tally_of, tally_numbers, fraction_numbers};
+ghost use Rattle.trees.specs.Answer.{first_answer, first_bytes, next_answer, next_bytes};
+ghost use Rattle.image_check.specs.ScopeTrees.{first_numbers, next_numbers};
 
-use image_check::{changes, conversions, tallies};
+use image_check::{changes, conversions, scope_trees, tallies};
 use packing::PackKind;
 
 // The answer for an enclave pack and its two texts; the result is how many of `numbers` hold it.
@@ -164,4 +166,22 @@ pub extern "C" fn mean_of_tally<'a>(tally: &'a [u64; 3], numbers: &mut [u64; 8])
     ensures { Answered (fraction_numbers (mean (tally_of tally.now))) result numbers.new }
 {
     tallies::mean_of_tally(tally, numbers)
+}
+
+// The first legal table of so many scopes, in the place of the lent bytes; the result is how many of `numbers` hold the answer.
+#[unsafe(no_mangle)]
+pub extern "C" fn first_scope_tree(count: u32, table: &mut [u8], numbers: &mut [u64; 8]) -> u32
+    ensures answer { Answered (first_numbers (first_answer count table.old)) result numbers.new }
+    ensures table { table.new ≡ first_bytes count table.old }
+{
+    scope_trees::first_scope_tree(count, table, numbers)
+}
+
+// The next legal table after the one in the lent bytes, in its place; the result is how many of `numbers` hold the answer.
+#[unsafe(no_mangle)]
+pub extern "C" fn next_scope_tree(count: u32, table: &mut [u8], numbers: &mut [u64; 8]) -> u32
+    ensures answer { Answered (next_numbers (next_answer count table.old)) result numbers.new }
+    ensures table { table.new ≡ next_bytes count table.old }
+{
+    scope_trees::next_scope_tree(count, table, numbers)
 }
