@@ -3,6 +3,7 @@ use crate::change::Changed;
 use crate::lent;
 use crate::tally::Tallied;
 use pack::convert::Converted;
+use crate::tree::Grown;
 use std::fmt;
 
 #[derive(Clone, Debug, PartialEq, Eq)]
@@ -19,6 +20,8 @@ pub enum Answer {
     Converted(Converted),
     /// What each step of a tally gave.
     Tally(Tallied),
+    /// What was asked of scope trees gave.
+    Tree(Grown),
 }
 
 impl fmt::Display for Answer {
@@ -39,6 +42,7 @@ impl fmt::Display for Answer {
                 write!(to, " | {}", lent::digits(output))
             }
             Answer::Tally(tallied) => tallied.fmt(to),
+            Answer::Tree(grown) => grown.fmt(to),
         }
     }
 }

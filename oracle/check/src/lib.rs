@@ -1,4 +1,4 @@
-//! A case through the packing rules, boomerang's check and that of the deadlines, as one answer; a record changed; or a conversion, or a tally.
+//! A case through the packing rules, boomerang's check and that of the deadlines, as one answer; a record changed; or a conversion, or a tally, or a scope tree.
 mod answer;
 pub mod change;
 mod deadlines;
@@ -11,6 +11,7 @@ mod numbers;
 pub mod owner;
 mod places;
 pub mod tally;
+pub mod tree;
 pub mod worth;
 
 pub use answer::Answer;
@@ -25,7 +26,7 @@ use boomerang_runtime::image::{
 use enclave::Enclave;
 use identities::Identities;
 use pack::convert;
-use pack::corpus::{Case, Kind, NIGHT, TALLY};
+use pack::corpus::{Case, Kind, NIGHT, FIRST_TREE, NEXT_TREE, TALLY};
 use pack::layout::{ENCLAVE, FEDERATE};
 use pack::packing;
 use pack::row::Row;
@@ -40,6 +41,9 @@ pub fn answer(case: &Case) -> Answer {
     }
     if let Some((kind, output)) = case.conversion() {
         return Answer::Converted(convert::of(&case.pack, kind, output));
+    }
+    if matches!(case.kind, FIRST_TREE | NEXT_TREE) {
+        return Answer::Tree(tree::of(case.kind, &case.rest));
     }
     let kind = case.kind().expect("a kind that a corpus has");
     let answer = match packing::check(case, kind) {

@@ -14,6 +14,7 @@ mod styles;
 mod tally;
 mod texts;
 mod tiny;
+mod trees;
 
 use pack::rng;
 use std::fs::File;
@@ -34,7 +35,7 @@ fn main() -> ExitCode {
         let styles: Vec<&str> = STYLES.iter().map(|style| style.name).collect();
         eprintln!("gen SEED COUNT OUT [--from N] [--only MIX]");
         eprintln!(
-            "MIX: all, station, line, packing, deadlines, large, deep, night, owner, change, convert, tally, {}",
+            "MIX: all, station, line, packing, deadlines, large, deep, night, owner, change, convert, tally, trees, {}",
             styles.join(", ")
         );
         return ExitCode::from(2);

@@ -6,7 +6,7 @@ use crate::line::{grown, Extent};
 use crate::plan::{Size, SMALL};
 use crate::rng::Rng;
 use crate::texts::Texts;
-use crate::{change, convert, faults, identities, night, tally, tiny};
+use crate::{change, convert, faults, identities, night, tally, tiny, trees};
 use pack::corpus::{Case, Kind, NIGHT, OWNER};
 use pack::layout::{MODES, ROUTES};
 use pack::row::{pack, Row};
@@ -49,12 +49,14 @@ pub struct Mix {
     /// Long texts and packs at the limit now and then.
     rarities: bool,
     special: Option<fn(&mut Rng, Kind) -> Case>,
+    /// Cases that are listed by their number, and no images.
+    listed: Option<fn(&mut Rng, u64) -> Case>,
     /// How many of 1,000 cases are given deadlines.
     with_deadlines: u64,
 }
 
 impl Mix {
-    /// The mix with this name: a group, a style, `large`, `deep`, `night`, `owner`, `change`, `convert` or `tally`.
+    /// The mix with this name: a group, a style, `large`, `deep`, `night`, `owner`, `change`, `convert`, `tally` or `trees`.
     pub fn named(name: &str) -> Option<Self> {
         let found = GROUPS.iter().find(|group| group.0 == name);
         let (names, kind) = found.map_or((vec![name], None), |group| (group.1.to_vec(), group.2));
@@ -72,11 +74,13 @@ impl Mix {
         let rarities = name == "all" || name == "packing";
         let with_deadlines = match name {
             "deadlines" => 1000,
-            "deep" | "change" | "convert" | "tally" => 0,
+            "deep" | "change" | "convert" | "tally" | "trees" => 0,
             _ => 460,
         };
-        let mix = Mix { styles, kind, rarities, special, with_deadlines };
-        (special.is_some() || !mix.styles.is_empty()).then_some(mix)
+        let listed: Option<fn(&mut Rng, u64) -> Case> =
+            if name == "trees" { Some(trees::case) } else { None };
+        let mix = Mix { styles, kind, rarities, special, listed, with_deadlines };
+        (special.is_some() || listed.is_some() || !mix.styles.is_empty()).then_some(mix)
     }
 
     /// Case `index` of `seed`.
@@ -94,6 +98,9 @@ impl Mix {
 
     fn without_deadlines(&self, seed: u64, index: u64) -> Case {
         let mut rng = Rng::of_case(seed, index);
+        if let Some(make) = self.listed {
+            return make(&mut rng, index);
+        }
         let of_line = rng.chance(2, 5);
         let kind = self.kind.unwrap_or(if of_line { Kind::Federate } else { Kind::Enclave });
         if let Some(make) = self.special {

@@ -34,6 +34,7 @@ fn without_site(case: &Case, answer: &Answer) -> String {
         Answer::Change(_) => "change".into(),
         Answer::Converted(_) => "converted".into(),
         Answer::Tally(_) => "tally".into(),
+        Answer::Tree(_) => "scope tree".into(),
         Answer::Refused(numbers) => format!("refused {}", numbers[0]),
     }
 }

@@ -1,11 +1,12 @@
 //! A case record by record in words, with its answer.
 use crate::{one, sites, Done};
 use check::{answer, Answer};
-use pack::corpus::{Case, Kind, NIGHT, CHANGE, TALLY};
+use pack::corpus::{Case, Kind, NIGHT, CHANGE, FIRST_TREE, NEXT_TREE, TALLY};
 use pack::layout::{numbers, Shape, ACTIONS, BINDINGS, REACTIONS, ROUTES, TABLES};
 use pack::names::{direction_name, field_name, kind_name, refusal_of, table_name, Value};
 use pack::row::Row;
 use pack::tally::{self, Step};
+use pack::tree;
 use pack::RECORD;
 use std::collections::BTreeMap;
 
@@ -16,6 +17,10 @@ pub fn print(corpus: &str, number: &str) -> Done {
     let case = one(corpus, number)?;
     if case.kind == TALLY {
         show_tally(number, &case);
+        return Ok(true);
+    }
+    if matches!(case.kind, FIRST_TREE | NEXT_TREE) {
+        show_tree(number, &case);
         return Ok(true);
     }
     let conversion = case.conversion();
@@ -68,6 +73,14 @@ fn show_tally(number: &str, case: &Case) {
             Step::Mean => println!("  the mean is asked"),
         }
     }
+    println!("answer: {}", answer(case));
+}
+
+/// What is asked of scope trees, and the answer with the lent bytes.
+fn show_tree(number: &str, case: &Case) {
+    let (count, lent) = tree::read(&case.rest);
+    let wanted = if case.kind == FIRST_TREE { "the first tree" } else { "the next tree" };
+    println!("case {number}: {wanted} of {count} scopes, {} bytes lent: {}", lent.len(), shown(lent));
     println!("answer: {}", answer(case));
 }
 

@@ -69,6 +69,7 @@ fn group(answer: &Answer, kind: u8) -> String {
             format!("not converted, {:02} {}", numbers[0], refusal_of(numbers[0]).name)
         }
         Answer::Tally(_) => "tally".into(),
+        Answer::Tree(grown) => format!("scope tree: {}", grown.given),
     }
 }
 

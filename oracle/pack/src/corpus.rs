@@ -8,26 +8,30 @@ pub enum Kind {
     Federate,
 }
 
-/// The kinds of question: the check of a station, that of a line, that of a line at night, the owner of a mode, a record of a line changed or tried first,
-/// the converter, and a tally.
+/// The kinds of question: the check of a station, that of a line, that of a line at night, the owner of a mode, the converter, a record of a line changed
+/// or tried first, the first scope tree and the next, and a tally.
 pub const STATION: u8 = 0;
 pub const LINE: u8 = 1;
 pub const NIGHT: u8 = 2;
 pub const OWNER: u8 = 6;
+pub const CONVERT: u8 = 7;
 pub const CHANGE: u8 = 8;
 pub const PREVIEW: u8 = 9;
-pub const CONVERT: u8 = 7;
+pub const FIRST_TREE: u8 = 10;
+pub const NEXT_TREE: u8 = 11;
 pub const TALLY: u8 = 12;
 
 /// The bytes of a tally's three numbers and of how many steps it has.
 pub const TALLY_HEAD: u64 = 28;
 
-/// How many bytes follow a question's parts, before the output of a conversion and the steps of a tally and the row of a change; none for a kind that is not known.
+/// The most bytes that a question lends.
+pub const LENT_LIMIT: u32 = 65_536;
+
+/// How many bytes follow a question's parts, before what it lends and the steps of a tally; none for a kind that is not known.
 fn rest_length(kind: u8) -> Option<u64> {
     match kind {
         STATION | LINE | NIGHT => Some(0),
-        OWNER | CONVERT => Some(4),
-        CHANGE | PREVIEW => Some(8),
+        OWNER | CONVERT | CHANGE | PREVIEW | FIRST_TREE | NEXT_TREE => Some(4),
         TALLY => Some(TALLY_HEAD),
         _ => None,
     }
@@ -146,35 +150,13 @@ impl<R: Read> Corpus<R> {
             return Ok(Next::CutOff);
         }
         let mut case = Case { kind: head[0], pack, batch, house, rest };
-        if matches!(case.kind, CHANGE | PREVIEW) {
-            let length = number(&case.rest[4..]);
-            case.rest.extend(self.take(length.into())?);
-            if case.rest.len() < 8 + length as usize {
-                return Ok(Next::CutOff);
-            }
-        }
         let ended = match case.kind {
             TALLY => self.steps(&mut case.rest)?,
-            CONVERT => self.output(&mut case.rest)?,
+            CONVERT if number(&case.rest) > 1 => Some(Next::UnknownKind),
+            CONVERT | CHANGE | PREVIEW | FIRST_TREE | NEXT_TREE => self.lent(&mut case.rest)?,
             _ => None,
         };
         Ok(ended.unwrap_or(Next::Case(case)))
-    }
-
-    /// Adds the output of a conversion, behind whether the pack is a station (0) or a line (1); or how the corpus ends there.
-    fn output(&mut self, rest: &mut Vec<u8>) -> io::Result<Option<Next>> {
-        if number(rest) > 1 {
-            return Ok(Some(Next::UnknownKind));
-        }
-        let head = self.take(4)?;
-        if head.len() < 4 {
-            return Ok(Some(Next::CutOff));
-        }
-        let length = number(&head);
-        let output = self.take(length.into())?;
-        let whole = output.len() == length as usize;
-        rest.extend([head, output].concat());
-        Ok((!whole).then_some(Next::CutOff))
     }
 
     /// Adds a tally's steps; or how the corpus ends there.
@@ -186,6 +168,22 @@ impl<R: Read> Corpus<R> {
             }
         }
         Ok(None)
+    }
+
+    /// Adds the bytes that a question lends, an output or a row among them, with their length before them; or how the corpus ends there.
+    fn lent(&mut self, rest: &mut Vec<u8>) -> io::Result<Option<Next>> {
+        let head = self.take(4)?;
+        if head.len() < 4 {
+            return Ok(Some(Next::CutOff));
+        }
+        let length = number(&head);
+        if length > LENT_LIMIT {
+            return Ok(Some(Next::UnknownKind));
+        }
+        let lent = self.take(length.into())?;
+        let whole = lent.len() == length as usize;
+        rest.extend([head, lent].concat());
+        Ok((!whole).then_some(Next::CutOff))
     }
 
     /// Adds a tally's next step; or how the corpus ends there.

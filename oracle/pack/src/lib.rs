@@ -7,6 +7,7 @@ pub mod packing;
 pub mod rng;
 pub mod row;
 pub mod tally;
+pub mod tree;
 pub mod utf8;
 
 /// Bytes of one record.
