@@ -2,7 +2,10 @@
 use crate::answer::answer_of;
 use crate::changes::{ChangeCase, change_answer, read_change};
 use crate::conversion::{Conversion, conversion_answer, read_conversion};
-use crate::input::{CHANGE, CONVERT, PREVIEW, ReadError, Room, TALLY, read_kind, read_parts};
+use crate::input::{
+    CHANGE, CONVERT, FIRST_TREE, NEXT_TREE, PREVIEW, ReadError, Room, TALLY, read_kind, read_parts,
+};
+use crate::scope_trees::{TreeCase, Wanted, read_tree, tree_answer};
 use crate::steps::{TallyCase, read_step, read_tally, step_answer};
 use arrayvec::ArrayVec;
 use std::io;
@@ -82,6 +85,15 @@ fn add_conversion<W: Write>(output: &mut W, lines: &mut Lines, case: Conversion)
     writeln!(lines)
 }
 
+// Adds the line of a tree's case: the answer, and the table as it then is.
+fn add_tree<W: Write>(output: &mut W, lines: &mut Lines, case: TreeCase) -> io::Result<()> {
+    let mut case = case;
+    let answer = tree_answer(&mut case);
+    write!(lines, "{answer}")?;
+    add_bytes(output, lines, case.table)?;
+    writeln!(lines)
+}
+
 // Takes what follows the first byte of a case of that kind, and adds its line.
 fn answer_case<R: BufRead, W: Write>(
     kind: u8,
@@ -98,6 +110,14 @@ fn answer_case<R: BufRead, W: Write>(
         CONVERT => {
             let case = read_conversion(input, room)?;
             add_conversion(output, lines, case)
+        }
+        FIRST_TREE => {
+            let case = read_tree(Wanted::First, input, room)?;
+            add_tree(output, lines, case)
+        }
+        NEXT_TREE => {
+            let case = read_tree(Wanted::Next, input, room)?;
+            add_tree(output, lines, case)
         }
         TALLY => {
             let case = read_tally(input, room.pack)?;

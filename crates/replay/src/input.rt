@@ -37,6 +37,10 @@ pub const CHANGE: u8 = 8;
 
 pub const PREVIEW: u8 = 9;
 
+pub const FIRST_TREE: u8 = 10;
+
+pub const NEXT_TREE: u8 = 11;
+
 pub const TALLY: u8 = 12;
 
 // Why a case is not read: it is cut off, its first byte is no kind of question or one of its steps is none, or its reading failed.
