@@ -1,5 +1,5 @@
 // The papers' lines tried by hand, and document 01's misreadings: packs from rows, a line for each with the check's answer;
-// lines at night, records that are changed, conversions, and tallies.
+// lines at night, records that are changed, conversions, scope trees, and tallies.
 #![tactic(auto)]
 
 mod changes;
@@ -10,6 +10,7 @@ mod nights;
 mod owners;
 mod parts;
 mod rows;
+mod scope_trees;
 mod show;
 mod tallies;
 
@@ -22,5 +23,6 @@ fn main(rt: HostRuntime) -> Result<()> {
     owners::cases(&rt)?;
     conversions::cases(&rt)?;
     tallies::cases(&rt)?;
-    changes::cases(&rt)
+    changes::cases(&rt)?;
+    scope_trees::cases(&rt)
 }
