@@ -1,10 +1,10 @@
 //! The check of packed images: one station (an enclave) or a whole line (a federate), over a pack, its batch text and its house text.
 //!
-//! Any three byte slices get an answer. One record of a line's pack can be tried ([`preview_record`]) and changed ([`change_record`]). A [`Tally`] counts
-//! answers of lines, and [`convert_enclave`] and [`convert_federate`] turn the
-//! numbers of a pack round; [`first_tree`] and [`next_tree`] list the small
-//! tables of parents. The code behind it is proved (`crates/image_check`); what its boundary assumes is said in
-//! `bindings/c/image_check.h`, and a slice of Rust's brings all of it but the stack, [`STACK`] and [`CHANGE_STACK`].
+//! Any three byte slices get an answer. What else can be asked: which reactor a mode belongs to ([`mode_owner`]), what a reaction reaches
+//! ([`reached_in_bytes`], [`reached_in_bits`]), what a line would be with another row ([`preview_record`], [`change_record`]), a pack of the other byte order
+//! ([`convert_enclave`], [`convert_federate`]), small scope trees ([`first_tree`], [`next_tree`]), and a [`Tally`] of answers of lines. The code behind it is
+//! proved (`crates/image_check`); what its boundary assumes is said in `bindings/c/image_check.h`, and a slice of Rust's brings all of it but the stack:
+//! [`STACK`], [`CHANGE_STACK`] and [`REACH_STACK`].
 
 #[cfg(not(all(target_arch = "x86_64", target_os = "linux")))]
 compile_error!("libimage_check.a is for x86-64 Linux");
