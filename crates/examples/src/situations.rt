@@ -1,6 +1,4 @@
-// The program's situations, each by its own files: a line for each with what is tried, and the program's line.
-#![tactic(auto)]
-
+// The situations of the operator's three files, each by its own: a line for each with what is tried, and the program's line.
 use line_check::{Profile, check_files};
 use std::io;
 
@@ -69,11 +67,11 @@ const SITUATIONS: [[&str; 4]; 16] = [
     ],
 ];
 
-fn main(rt: HostRuntime) -> io::Result<()> {
+pub fn cases(rt: &HostRuntime) -> io::Result<()> {
     for [name, pack, batch, house] in SITUATIONS {
         print!(rt; "{name}: ")?;
         let (pack, batch, house) = (pack.as_bytes(), batch.as_bytes(), house.as_bytes());
-        check_files(&rt, Profile::Day, pack, batch, house)?;
+        check_files(rt, Profile::Day, pack, batch, house)?;
     }
     Ok(())
 }

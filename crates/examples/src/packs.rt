@@ -1,6 +1,4 @@
 // Packs by hand for each packing refusal, a line for each: what is set in it, and the library's answer.
-#![tactic(auto)]
-
 ghost use Rattle.std.specs.Prelude.{◌≤◌};
 
 use packing::PackKind;
@@ -261,9 +259,9 @@ fn starts<W: Write>(out: &mut W) -> io::Result<()> {
     show_starts(out, "0000/0001/0001/0002", 2)
 }
 
-fn main(rt: HostRuntime) -> io::Result<()> {
-    lengths_within::<MOST>(&rt)?;
-    let mut out = io::writer(&rt);
+pub fn cases(rt: &HostRuntime) -> io::Result<()> {
+    lengths_within::<MOST>(rt)?;
+    let mut out = io::writer(rt);
     texts(&mut out)?;
     order(&mut out)?;
     fields(&mut out)?;

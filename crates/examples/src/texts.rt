@@ -1,6 +1,4 @@
 // Examples from outside for the text of an identity, a line for each: bytes or places, and the library's answer.
-#![tactic(auto)]
-
 ghost use Rattle.std.specs.Prelude.{◌≤◌, length};
 
 use identity::IdentityPlace;
@@ -224,8 +222,8 @@ fn places<W: Write>(out: &mut W) -> io::Result<()> {
     Ok(())
 }
 
-fn main(rt: HostRuntime) -> io::Result<()> {
-    let mut out = io::writer(&rt);
+pub fn cases(rt: &HostRuntime) -> io::Result<()> {
+    let mut out = io::writer(rt);
     utf_8(&mut out)?;
     surrogates(&mut out)?;
     identities(&mut out)?;
