@@ -12,7 +12,10 @@ use federate::check::check_federate;
 use schema::lent::PACK_LIMIT;
 use schema::record::Record;
 
-// Up to so many bytes of a pack are copied into an array of this size, and more into one for any pack.
+// A pack of up to so many bytes is copied into an array of this size, so that a small one does not pay for clearing a large array; a larger pack into one
+// for any pack.
+const FEW_BYTES: usize = 4_096;
+
 const SOME_BYTES: usize = 65_536;
 
 // A row is one record's bytes.
@@ -86,6 +89,9 @@ fn check_changed(
     requires sized { length row.now ≡ 64 }
     ensures { federate_numbers result ≡ federate_answer (changed pack.now number row.now) batch.now house.now }
 {
+    if pack.len() <= FEW_BYTES {
+        return check_copy::<FEW_BYTES>(pack, batch, house, number, row);
+    }
     if pack.len() <= SOME_BYTES {
         return check_copy::<SOME_BYTES>(pack, batch, house, number, row);
     }
