@@ -16,12 +16,149 @@ extern "C" {
 /* The same for one call that tries or changes a record of a pack of more than 65,536 bytes: the new line is checked in a copy, on the stack. */
 #define IMAGE_CHECK_CHANGE_STACK 4718592
 
+/* The refusals by their numbers, numbers[0], and what follows in numbers[1] and on. docs/REFUSALS.md says of each what it means and what to look at. */
+enum image_check_refusal {
+    IMAGE_CHECK_REFUSAL_LENGTH = 1,
+    IMAGE_CHECK_REFUSAL_TEXT_TOO_LONG = 2,              /* text */
+    IMAGE_CHECK_REFUSAL_TABLE_OUT_OF_PLACE = 3,         /* record */
+    IMAGE_CHECK_REFUSAL_STRAY_BYTE = 4,                 /* record */
+    IMAGE_CHECK_REFUSAL_IDENTITY_OUTSIDE = 5,           /* record */
+    IMAGE_CHECK_REFUSAL_NOT_UTF8 = 6,                   /* record */
+    IMAGE_CHECK_REFUSAL_REFERENCE_OUT_OF_BOUNDS = 12,   /* table, index, field, target, referenced, rows */
+    IMAGE_CHECK_REFUSAL_RANGE_OUT_OF_BOUNDS = 13,       /* table, index, field, target, start, len */
+    IMAGE_CHECK_REFUSAL_RANGES_NOT_MONOTONIC = 14,      /* table, index, field, start, previous_end */
+    IMAGE_CHECK_REFUSAL_ENTRIES_NOT_SORTED = 15,        /* table, index */
+    IMAGE_CHECK_REFUSAL_DUPLICATE_ENTRY = 16,           /* table, index */
+    IMAGE_CHECK_REFUSAL_OWNERSHIP_MISMATCH = 17,        /* table, index, field */
+    IMAGE_CHECK_REFUSAL_SCOPE_PARENT_CYCLE = 18,        /* scope */
+    IMAGE_CHECK_REFUSAL_INVALID_STABLE_ID = 19,         /* kind, index, text, start, len */
+    IMAGE_CHECK_REFUSAL_STABLE_IDS_NOT_SORTED = 20,     /* kind, index, text, start, len */
+    IMAGE_CHECK_REFUSAL_DUPLICATE_STABLE_ID = 21,       /* kind, index, text, start, len */
+    IMAGE_CHECK_REFUSAL_INVALID_BANK_INFO = 22,         /* reactor, index, total */
+    IMAGE_CHECK_REFUSAL_STORAGE_BOUND_EXCEEDED = 23,    /* table, index, slot, bound */
+    IMAGE_CHECK_REFUSAL_BINDING_KIND_MISMATCH = 24,     /* table, index, field */
+    IMAGE_CHECK_REFUSAL_BINDING_PRESENCE_MISMATCH = 25, /* table, index, field */
+    IMAGE_CHECK_REFUSAL_UNPAIRED_ROUTE = 26,            /* text, start, len, direction */
+    IMAGE_CHECK_REFUSAL_DUPLICATE_ROUTE_HALF = 27,      /* text, start, len, direction */
+    IMAGE_CHECK_REFUSAL_ROUTE_PAIR_MISMATCH = 28,       /* text, start, len, field */
+    IMAGE_CHECK_REFUSAL_PHYSICAL_ROUTE = 29,            /* enclave, route */
+    IMAGE_CHECK_REFUSAL_SCOPE_TOO_DEEP = 30,            /* enclave, scope */
+    IMAGE_CHECK_REFUSAL_TOO_MANY_REACTORS = 31,         /* enclave, reactors */
+    IMAGE_CHECK_REFUSAL_LEVEL_NOT_RISING = 32,          /* reaction, target */
+    IMAGE_CHECK_REFUSAL_SCRATCH_TOO_SHORT = 33,
+    IMAGE_CHECK_REFUSAL_OUTPUT_TOO_SHORT = 34,
+    IMAGE_CHECK_REFUSAL_NO_SUCH_RECORD = 35,
+    IMAGE_CHECK_REFUSAL_RECORD_LENGTH = 36,
+    IMAGE_CHECK_REFUSAL_TABLE_CHANGES = 37,
+    IMAGE_CHECK_REFUSAL_SCOPE_COUNT = 38,
+    IMAGE_CHECK_REFUSAL_ZERO_DEADLINE = 39,             /* index */
+    IMAGE_CHECK_REFUSAL_TALLY_FULL = 40,
+    IMAGE_CHECK_REFUSAL_PARENTS_LENGTH = 41,
+    IMAGE_CHECK_REFUSAL_PARENT_OUTSIDE = 42,
+    IMAGE_CHECK_REFUSAL_NOT_A_TREE = 43,
+    IMAGE_CHECK_REFUSAL_LINK_SUM_TOO_LARGE = 44,
+    IMAGE_CHECK_REFUSAL_NOTHING_TO_DIVIDE = 45,
+    IMAGE_CHECK_REFUSAL_NO_SUCH_TALLY = 46
+};
+
+/* The tables, by the numbers that refusals have for `table` and `target`. IMAGE is the station as a whole, and ENCLAVE_KEY_DOMAIN the numbers that stations
+ * can have. */
+enum image_check_table {
+    IMAGE_CHECK_TABLE_FEDERATE = 0,
+    IMAGE_CHECK_TABLE_IMAGE = 1,
+    IMAGE_CHECK_TABLE_REACTORS = 2,
+    IMAGE_CHECK_TABLE_ACTIONS = 3,
+    IMAGE_CHECK_TABLE_PORTS = 4,
+    IMAGE_CHECK_TABLE_REACTIONS = 5,
+    IMAGE_CHECK_TABLE_MODES = 6,
+    IMAGE_CHECK_TABLE_SCOPES = 7,
+    IMAGE_CHECK_TABLE_REACTION_TRIGGERS = 8,
+    IMAGE_CHECK_TABLE_REACTION_USE_PORTS = 9,
+    IMAGE_CHECK_TABLE_REACTION_EFFECT_PORTS = 10,
+    IMAGE_CHECK_TABLE_REACTION_ACTIONS = 11,
+    IMAGE_CHECK_TABLE_REACTION_MODES = 12,
+    IMAGE_CHECK_TABLE_SCOPE_DESCENDANTS = 13,
+    IMAGE_CHECK_TABLE_SCOPE_LOGICAL_ACTIONS = 14,
+    IMAGE_CHECK_TABLE_SCOPE_TIMER_STARTUPS = 15,
+    IMAGE_CHECK_TABLE_SCOPE_RESET_REACTIONS = 16,
+    IMAGE_CHECK_TABLE_SCOPE_STARTUP_REACTIONS = 17,
+    IMAGE_CHECK_TABLE_SCOPE_SHUTDOWN_REACTIONS = 18,
+    IMAGE_CHECK_TABLE_STARTUP_ACTIONS = 19,
+    IMAGE_CHECK_TABLE_TIMER_STARTUP_ACTIONS = 20,
+    IMAGE_CHECK_TABLE_SHUTDOWN_REACTIONS = 21,
+    IMAGE_CHECK_TABLE_SHUTDOWN_ACTIONS = 22,
+    IMAGE_CHECK_TABLE_ROUTES = 23,
+    IMAGE_CHECK_TABLE_REQUIRED_BINDINGS = 24,
+    IMAGE_CHECK_TABLE_DEADLINES = 25,
+    IMAGE_CHECK_TABLE_ENCLAVE_KEY_DOMAIN = 255
+};
+
+/* The fields, for `field`. */
+enum image_check_field {
+    IMAGE_CHECK_FIELD_ROOT_REACTOR = 1,
+    IMAGE_CHECK_FIELD_STATE_BINDING = 2,
+    IMAGE_CHECK_FIELD_ROOT_SCOPE = 3,
+    IMAGE_CHECK_FIELD_MODES = 4,
+    IMAGE_CHECK_FIELD_INITIAL_MODE = 5,
+    IMAGE_CHECK_FIELD_SCOPE = 6,
+    IMAGE_CHECK_FIELD_BINDING = 7,
+    IMAGE_CHECK_FIELD_TRIGGERS = 8,
+    IMAGE_CHECK_FIELD_REACTOR = 9,
+    IMAGE_CHECK_FIELD_SCOPE_REACTOR = 10,
+    IMAGE_CHECK_FIELD_MODE_EFFECT_TARGET = 11,
+    IMAGE_CHECK_FIELD_MODE_EFFECT_TARGET_REACTOR = 12,
+    IMAGE_CHECK_FIELD_USE_PORTS = 13,
+    IMAGE_CHECK_FIELD_EFFECT_PORTS = 14,
+    IMAGE_CHECK_FIELD_ACTIONS = 15,
+    IMAGE_CHECK_FIELD_ENABLED_MODES = 16,
+    IMAGE_CHECK_FIELD_SCOPE_MODE = 17,
+    IMAGE_CHECK_FIELD_REACTOR_MODES = 18,
+    IMAGE_CHECK_FIELD_PARENT = 19,
+    IMAGE_CHECK_FIELD_MODE = 20,
+    IMAGE_CHECK_FIELD_DESCENDANTS = 21,
+    IMAGE_CHECK_FIELD_LOGICAL_ACTIONS = 22,
+    IMAGE_CHECK_FIELD_TIMER_STARTUPS = 23,
+    IMAGE_CHECK_FIELD_RESET_REACTIONS = 24,
+    IMAGE_CHECK_FIELD_STARTUP_REACTIONS = 25,
+    IMAGE_CHECK_FIELD_SHUTDOWN_REACTIONS = 26,
+    IMAGE_CHECK_FIELD_REACTION = 27,
+    IMAGE_CHECK_FIELD_DEPENDENCY_LEVEL = 28,
+    IMAGE_CHECK_FIELD_ACTION = 29,
+    IMAGE_CHECK_FIELD_PORT = 30,
+    IMAGE_CHECK_FIELD_ENABLED_MODES_REACTOR = 31,
+    IMAGE_CHECK_FIELD_LOCAL_PORT = 32,
+    IMAGE_CHECK_FIELD_ENCLAVES = 33,
+    IMAGE_CHECK_FIELD_TIMING_DOMAIN = 34,
+    IMAGE_CHECK_FIELD_DELAY_NANOS = 35
+};
+
+/* The kinds of identities, for `kind`. */
+enum image_check_kind {
+    IMAGE_CHECK_KIND_FEDERATE = 1,
+    IMAGE_CHECK_KIND_TARGET = 2,
+    IMAGE_CHECK_KIND_RUNTIME = 3,
+    IMAGE_CHECK_KIND_ENCLAVE = 4,
+    IMAGE_CHECK_KIND_BOUNDARY = 5,
+    IMAGE_CHECK_KIND_BINDING = 6
+};
+
+/* The halves of a boundary, for `direction`. */
+enum image_check_direction {
+    IMAGE_CHECK_DIRECTION_INBOUND = 0,
+    IMAGE_CHECK_DIRECTION_OUTBOUND = 1
+};
+
+/* The texts, for `text`. */
+enum image_check_text {
+    IMAGE_CHECK_TEXT_BATCH = 0,
+    IMAGE_CHECK_TEXT_HOUSE = 1
+};
+
 /* Checks the image of one station (an enclave) or of a whole line (a federate): a pack, its batch text and its house text.
  *
  * The result says how many of `numbers` hold the answer, from 1 to 7 (7 for refusals 12 and 13); the others of the eight are set to 0.
  *   numbers[0] is 0: accepted. Then follow, for an enclave, the links (result 2); for a federate, the stations and the links (result 3).
- *   numbers[0] is not 0: refused. It is the refusal's number, from 1 to 39, and the numbers that it carries follow. docs/REFUSALS.md lists
- *   them. Tables are numbered 0 to 25, as in the pack (25 are the deadlines, which may be left out); in 13 also 255, the numbers of stations.
+ *   numbers[0] is not 0: refused. It is the refusal's number, an image_check_refusal, and the numbers that it carries follow.
  * The program `replay` prints these numbers: `accepted` (`owner` for a mode's owner, `converted`) and those after the 0, or `refused` and all of them.
  *
  * Proved (crates/image_check, exported by crates/image_check_c): for any three strings of bytes, whatever their lengths and contents, the

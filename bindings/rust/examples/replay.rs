@@ -1,10 +1,9 @@
 //! Answers a corpus on standard input as the program `replay` does (oracle/README.md has the format).
 use image_check::{
-    
-    change_record, check_enclave, check_federate, check_federate_night, convert_enclave, convert_federate, first_tree, check_rising, mode_owner, preview_record, next_tree, reached_in_bits, reached_in_bytes,
+    change_record, check_enclave, check_federate, check_federate_night, check_rising, convert_enclave,
+    convert_federate, first_tree, mode_owner, next_tree, preview_record, reached_in_bits, reached_in_bytes,
 };
-use image_check::{Fraction, Next, Refusal, Tally,
-};
+use image_check::{Next, Refusal, Tally};
 use std::io::{self, Read, Write};
 
 /// The line of a case of no known kind, which ends the run.
@@ -33,13 +32,9 @@ fn long(rest: &mut &[u8]) -> Option<u64> {
     Some(u64::from_be_bytes(*bytes))
 }
 
-/// The word for what has no value to give, or its refusal.
-fn done(answer: Result<(), Refusal>, word: &str) -> String {
-    answer.map_or_else(|refusal| refusal.to_string(), |()| word.to_string())
-}
-
-fn fraction(answer: Result<Fraction, Refusal>) -> String {
-    answer.map_or_else(|refusal| refusal.to_string(), |fraction| fraction.to_string())
+/// What an answer gives where nothing refuses, or its refusal.
+fn given<T: ToString>(answer: Result<T, Refusal>) -> String {
+    answer.map_or_else(|refusal| format!("refused {}", refusal.numbers()), |given| given.to_string())
 }
 
 /// The line of a tally, or nothing where the input ends inside it.
@@ -48,10 +43,10 @@ fn tally(rest: &mut &[u8]) -> Option<String> {
     let mut steps = Vec::new();
     for _ in 0..number(rest)? {
         steps.push(match take(rest, 1)?[0] {
-            0 => done(tally.add_refused(), "added"),
-            1 => done(tally.add_accepted(long(rest)?), "added"),
-            2 => fraction(tally.share()),
-            3 => fraction(tally.mean()),
+            0 => given(tally.add_refused().map(|()| "added")),
+            1 => given(tally.add_accepted(long(rest)?).map(|()| "added")),
+            2 => given(tally.share()),
+            3 => given(tally.mean()),
             _ => return Some(UNKNOWN_KIND.to_string()),
         });
     }
@@ -68,8 +63,7 @@ fn change(kind: u8, mut pack: Box<[u8]>, texts: [&[u8]; 2], rest: &mut &[u8]) ->
         8 => change_record(&mut pack, batch, house, number, &row),
         _ => preview_record(&pack, batch, house, number, &row),
     };
-    let digits: String = pack.iter().map(|byte| format!("{byte:02x}")).collect();
-    Some(format!("{answer} | {}", if digits.is_empty() { "-" } else { &digits }))
+    Some(with_lent(answer, &pack))
 }
 
 /// The line of a conversion, or nothing where the input ends inside it.
@@ -81,16 +75,8 @@ fn conversion(pack: &[u8], rest: &mut &[u8]) -> Option<String> {
     };
     let length = length(rest)?;
     let mut out = take(rest, length)?;
-    let answer = done(converter(pack, &mut out), "converted");
-    Some(format!("{answer} | {}", digits(&out)))
-}
-
-/// Bytes in hexadecimal digits, or `-` for none.
-fn digits(bytes: &[u8]) -> String {
-    if bytes.is_empty() {
-        return "-".to_string();
-    }
-    bytes.iter().map(|byte| format!("{byte:02x}")).collect()
+    let answer = given(converter(pack, &mut out).map(|()| "converted"));
+    Some(with_lent(answer, &out))
 }
 
 /// The bytes that a case lends, at most.
@@ -108,12 +94,10 @@ fn tree(kind: u8, rest: &mut &[u8]) -> Option<String> {
     } else {
         next_tree(count, &mut table)
     };
-    let answer = answer.map_or_else(|refusal| refusal.to_string(), |next| next.to_string());
-    let digits: String = table.iter().map(|byte| format!("{byte:02x}")).collect();
-    Some(format!("{answer} | {}", if digits.is_empty() { "-" } else { &digits }))
+    Some(with_lent(given(answer), &table))
 }
 
-/// An answer with the bytes that were lent, as they are after it.
+/// An answer with the bytes that were lent, as they are after it, in hexadecimal digits, or `-` for none.
 fn with_lent(answer: impl ToString, lent: &[u8]) -> String {
     let digits: String = lent.iter().map(|byte| format!("{byte:02x}")).collect();
     format!("{} | {}", answer.to_string(), if lent.is_empty() { "-" } else { &digits })

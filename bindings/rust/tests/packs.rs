@@ -3,7 +3,9 @@ use image_check::{
     change_record, check_enclave, check_federate, check_federate_night, check_rising, first_tree, mode_owner,
     next_tree, preview_record, reached_in_bits, reached_in_bytes,
 };
-use image_check::{Answer, Fraction, Next, Owner, Reached, Tally, CHANGE_STACK, REACH_STACK, STACK};
+use image_check::{
+    Answer, Fraction, Next, Owner, Reached, Refusal, Table, Tally, CHANGE_STACK, REACH_STACK, STACK,
+};
 
 /// A record: its table, its bytes 1 and 2, and the words from byte 4 on.
 fn record(table: u8, bits: [u8; 2], words: &[u32]) -> Vec<u8> {
@@ -90,7 +92,11 @@ fn smallest_station() {
 fn no_state_slots() {
     let answer = check_enclave(&station(0, 1), b"ab", b"");
     let Answer::Refused(refusal) = answer else { panic!("{answer}") };
-    assert_eq!((refusal.number(), refusal.numbers()), (23, &[23, 2, 0, 0, 0][..]));
+    assert_eq!((refusal.number(), &refusal.numbers()[..]), (23, &[23, 2, 0, 0, 0][..]));
+    assert_eq!(
+        refusal,
+        Refusal::StorageBoundExceeded { table: Table::Reactors, index: 0, slot: 0, bound: 0 }
+    );
     assert_eq!(answer.to_string(), "refused 23 2 0 0 0");
 }
 
@@ -99,7 +105,7 @@ fn missing_rows() {
     let whole = station(1, 1);
     let answer = check_enclave(&[&whole[..64], &whole[128..]].concat(), b"ab", b"");
     let Answer::Refused(refusal) = answer else { panic!("{answer}") };
-    assert_eq!((refusal.number(), refusal.numbers()), (12, &[12, 1, 0, 1, 2, 0, 0][..]));
+    assert_eq!((refusal.number(), &refusal.numbers()[..]), (12, &[12, 1, 0, 1, 2, 0, 0][..]));
     for scopes in [1, 3, 256, 65533] {
         let answer = check_enclave(&rooted(scopes, scopes), b"ab", b"");
         assert_eq!(answer.to_string(), format!("refused 12 2 0 3 7 {scopes} {scopes}"));
@@ -239,14 +245,13 @@ fn longest_chain() {
 
 fn try_tallies() {
     let mut tally = Tally::default();
-    let refused = |number: u64| format!("refused {number}");
-    assert_eq!(tally.share().unwrap_err().to_string(), refused(45));
+    assert_eq!(tally.share(), Err(Refusal::NothingToDivide));
     assert_eq!((tally.add_refused(), tally.mean().unwrap_err().number()), (Ok(()), 45));
     assert_eq!((tally.add_accepted(6), tally.add_accepted(4), tally.add_refused()), (Ok(()), Ok(()), Ok(())));
     assert_eq!(tally, Tally { answers: 4, accepted: 2, links: 10 });
     assert_eq!(tally.share(), Ok(Fraction { numerator: 1, denominator: 2 }));
     assert_eq!(tally.mean().unwrap().to_string(), "5/1");
-    assert_eq!(tally.add_accepted(u64::MAX).unwrap_err().to_string(), refused(44));
+    assert_eq!(tally.add_accepted(u64::MAX), Err(Refusal::LinkSumTooLarge));
     let full = Tally { answers: 1_000_000, accepted: 1, links: u64::MAX };
     tally = full;
     assert_eq!((tally.add_accepted(1).unwrap_err().number(), tally), (40, full));
@@ -292,7 +297,7 @@ fn try_trees() {
     assert_eq!((refused(2, &[3, 0, 0]), refused(1, &[])), (41, 41));
     assert_eq!((refused(2, &[1, 3]), refused(2, &[2, 1]), refused(1, &[1])), (42, 43, 43));
     let mut lent = [7; 5];
-    assert_eq!(first_tree(5, &mut lent).unwrap_err().to_string(), "refused 38");
+    assert_eq!(first_tree(5, &mut lent), Err(Refusal::ScopeCount));
     assert_eq!((first_tree(4, &mut lent).unwrap_err().number(), lent), (41, [7; 5]));
 }
 

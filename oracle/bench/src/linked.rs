@@ -23,7 +23,7 @@ pub fn answer(case: &Case) -> Answer {
     match run(case) {
         image_check::Answer::Enclave { links } => Answer::Accepted { stations: None, links },
         image_check::Answer::Federate { enclaves, links } => {
-            Answer::Accepted { stations: Some(enclaves), links }
+            Answer::Accepted { stations: Some(enclaves.into()), links }
         }
         image_check::Answer::Refused(refusal) => Answer::Refused(refusal.numbers().to_vec()),
     }
