@@ -1,5 +1,5 @@
 -- What reading three files comes to. Assumes nothing.
-use Rattle.std.specs.Prelude.{ℕ, List, Bool, true, false, ◌||◌, cond, nat_lt, nat_le, Option, Some, None, Result, Ok, Err, codes, take, if◌then◌else◌}
+use Rattle.std.specs.Prelude.{ℕ, List, Bool, true, false, ◌||◌, cond, nat_le, Option, Some, None, Result, Ok, Err, codes, take, if◌then◌else◌}
 use Rattle.line_check.specs.declared.image.File.{File}
 use Rattle.line_check.specs.declared.image.LineImage.{LineImage}
 use Rattle.line_check.specs.declared.files.FileError.{FileError}
@@ -9,9 +9,9 @@ abbrev pub error_text : FileError → List ℕ
 error_text NoFile = codes "no file"
 error_text TooLong = codes "too long"
 
--- a file of which so many bytes were read into a room of k bytes: too long where there are more than 65,536, or where the room is full and more may be there; None stands for one that cannot be read
+-- a file of which so many bytes were read into a room of k bytes: too long where the room is full, since more may be there; None stands for one that cannot be read
 abbrev pub file_of : Option ℕ → ℕ → Result ℕ FileError
-file_of (Some n) k = if nat_lt 65536 n || nat_le k n then Err TooLong else Ok n
+file_of (Some n) k = if nat_le k n then Err TooLong else Ok n
 file_of None k = Err NoFile
 
 abbrev pub file_bytes : File → List ℕ

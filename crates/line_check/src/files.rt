@@ -1,8 +1,8 @@
 // Reading the files of a line image, and what three such reads come to.
-ghost use Rattle.std.specs.Prelude.{◌≡◌, ◌≤◌, length, Some, IfOk, IfSome};
+ghost use Rattle.std.specs.Prelude.{◌≡◌, ◌<◌, ◌≤◌, length, Some, IfOk, IfSome};
 ghost use Rattle.line_check.specs.Files.{error_text, file_of, together};
 
-use crate::image::{File, LIMIT, LineImage, ROOM};
+use crate::image::{File, LineImage, ROOM};
 use FileError::{NoFile, TooLong};
 use std::error::Error;
 use std::io::Read;
@@ -63,19 +63,28 @@ fn read_room<R: rt::Files>(rt: &R, path: &[u8], room: &mut [u8]) -> Option<usize
 
 // How long a file is of which so many bytes stand in a room of this length: one that fills it may go on.
 fn file_of(read: Option<usize>, room: usize) -> Result<usize, FileError>
-    ensures { result ≡ file_of read room }
+    ensures value { result ≡ file_of read room }
+    ensures within { IfOk result (λ n. n < room) }
 {
     match read {
-        Some(n) if LIMIT < n || room <= n => Err(TooLong),
+        Some(n) if room <= n => Err(TooLong),
         Some(n) => Ok(n),
         None => Err(NoFile),
     }
 }
 
-// Reads the file of that name into a room that has a byte more than the longest file that fits.
+// How many bytes of the file of that name stand in the room, which has a byte more than the longest file that fits.
+pub fn read_within<R: rt::Files>(rt: &R, path: &[u8], room: &mut [u8]) -> Result<usize, FileError>
+    ensures { IfOk result (λ n. n < length room.new) }
+{
+    let read = read_room(rt, path, room);
+    file_of(read, room.len())
+}
+
+// Reads the file of that name, which may have 65,536 bytes.
 pub fn read_file<R: rt::Files>(rt: &R, path: &[u8]) -> Result<File, FileError> {
     let mut room = [0u8; ROOM];
-    let len = file_of(read_room(rt, path, &mut room), ROOM)?;
+    let len = read_within(rt, path, &mut room)?;
     Ok(File { room, len })
 }
 

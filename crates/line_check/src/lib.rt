@@ -5,6 +5,7 @@ mod files;
 mod image;
 mod line;
 
+pub use files::{FileError, read_within};
 use files::{read_file, together};
 pub use line::Profile;
 use line::file_line;
