@@ -1,6 +1,7 @@
-# Explains the program's line in one sentence, from its numbers alone.
-#   awk -f explain.awk names.txt LINES
-# A line that is not understood gets a sentence that says so, and the status is then 1.
+# Explains an answer in one sentence, from its numbers alone.
+#   awk [-v asked=COMMAND] -f explain.awk names.txt LINES
+# COMMAND is the command of ./line that gave the answer; with none it is ./line-check's. A line that is not understood gets a sentence that says so, and the
+# status is then 1.
 
 FNR == NR { learn(); next }
 { sentence = explained(); print (sentence == "" ? unknown() : sentence) }
@@ -28,17 +29,85 @@ function name(what, number) {
 # The sentence for the line, or nothing.
 function explained(text) {
   lost = 0
-  if ($0 == "no file") return "line.pack, batch.txt or house.txt is missing or cannot be read."
-  if ($0 == "too long") return "line.pack, batch.txt or house.txt is longer than 65,536 bytes."
-  if ($0 !~ /^[a-z]+( [0-9]+)+$/) return ""
+  if (asked == "tally") sub(/^(share|mean) refused /, "refused ")
+  text = in_words()
+  if (text != "" || $0 !~ /^[a-z]+( [0-9]+)+$/) return text
   if ($1 == "accepted") text = accepted()
   if ($1 == "refused") text = refused($2 + 0)
+  if ($1 == "owner" && NF == 2) text = "The mode belongs to reactors[" $2 "]."
+  if ($1 == "reached") text = reached()
+  if ($1 == "table") text = parents()
   return lost ? "" : text
 }
 
+# The sentence for a line that is more than a word and numbers, or less.
+function in_words() {
+  if ($0 == "no file") return missing()
+  if ($0 == "too long") return too_long()
+  if ($0 == "converted") return "The pack is converted: each of its numbers is turned round."
+  if ($0 ~ /^share [0-9]+\/[0-9]+$/) return shared()
+  if ($0 ~ /^mean [0-9]+\/[0-9]+$/) return "An accepted line has " $2 " parent links on average."
+  if ($0 ~ /^not understood [0-9]+$/) return "Line " $3 " is no answer of check, and was not counted."
+  return ""
+}
+
+# The pack, as a sentence calls it.
+function pack() {
+  if (asked ~ /^(station|rising|reach|owner)$/) return "station.pack"
+  return asked == "convert" ? "the pack" : "line.pack"
+}
+
+function missing() {
+  if (asked == "convert" || asked == "tally") return "The file is missing or cannot be read."
+  if (asked == "try" || asked == "change") return "line.pack, batch.txt, house.txt or the file of the row is missing or cannot be read."
+  return pack() ", batch.txt or house.txt is missing or cannot be read."
+}
+
+function too_long() {
+  if (asked == "") return "line.pack, batch.txt or house.txt is longer than 65,536 bytes."
+  if (asked == "convert") return "The pack is longer than 4,194,304 bytes."
+  return pack() " is longer than 4,194,304 bytes, or batch.txt or house.txt longer than 65,536."
+}
+
+# A line's answer has two numbers, a station's one.
 function accepted() {
-  if (NF != 3) return ""
-  return "The line image is accepted: " counted($2, "station") ", " counted($3, "parent link") "."
+  if (asked ~ /^(station|rising)$/) return NF == 2 ? station_accepted() : ""
+  return NF == 3 ? line_accepted() counted($2, "station") ", " counted($3, "parent link") "." : ""
+}
+
+function station_accepted() {
+  return "The station image is accepted" (asked == "rising" ? ", and its levels rise" : "") ": " counted($2, "parent link") "."
+}
+
+function line_accepted() {
+  if (asked == "night") return "The line image is accepted for the night: "
+  if (asked == "try") return "With that row the line image would be accepted: "
+  if (asked == "change") return "The record is changed, and the line image is accepted: "
+  return "The line image is accepted: "
+}
+
+function reached(text, i) {
+  if (NF != 2 + $2) return ""
+  text = "The reaction reaches " ($2 == 0 ? "no" : $2) " other reaction" ($2 == 1 ? "" : "s")
+  for (i = 3; i <= NF; i++) text = text (i == 3 ? ": " : ", ") "reactions[" $i "]"
+  return text "."
+}
+
+# A table of parents.
+function parents(text, i) {
+  if (NF > 5) return ""
+  for (i = 2; i <= NF; i++) {
+    if ($i >= NF) return ""
+    text = text (i == 2 ? "" : ", ") "scopes[" (i - 2) "] " ($i == 0 ? "has no parent" : "is under scopes[" ($i - 1) "]")
+  }
+  return text "."
+}
+
+function shared(parts) {
+  split($2, parts, "/")
+  if (parts[1] == 0) return "No answer is accepted."
+  if (parts[2] == 1) return "Every answer is accepted."
+  return "Of every " parts[2] " answers " parts[1] (parts[1] == 1 ? " is" : " are") " accepted."
 }
 
 function counted(n, thing) {
@@ -90,10 +159,10 @@ function refused(n) {
 }
 
 function of_packing(n, record) {
-  if (n == 1) return has(0) ? "line.pack is empty, too long, or not a whole number of 64-byte records." : ""
+  if (n == 1) return has(0) ? (asked == "convert" ? "The pack" : pack()) " is empty, too long, or not a whole number of 64-byte records." : ""
   if (!has(1)) return ""
   if (n == 2) return name("text", $3) " is longer than 65,536 bytes."
-  record = "Record " $3 " of line.pack has "
+  record = "Record " $3 " of " pack() " has "
   if (n == 3) return record "a table number that is unknown or out of place."
   if (n == 4) return record "a byte, bit or kind that its table does not use, or a value in a field that is marked absent."
   if (n == 5) return record "an identity that reaches past the end of its text."
@@ -102,10 +171,16 @@ function of_packing(n, record) {
 }
 
 function of_references(n) {
+  if (n == 12 && has(6) && asked_for()) return "There is no " name("table", $6) "[" $7 "]: there " are($8) "."
   if (n == 12 && has(6)) return field() " names missing " name("table", $6) "[" $7 "]: there " are($8) "."
   if (n == 13 && has(6)) return field() " is the range " $7 "+" $8 " (start+length), which reaches past the end of " whole(name("table", $6)) "."
   if (n == 14 && has(5)) return field() " starts at " $6 ", before " $7 ", where the row before it ends."
   return ""
+}
+
+# Whether the row that is missing is the one that was asked for by its number.
+function asked_for() {
+  return (asked == "reach" && $0 ~ /^refused 12 5 0 27 5 /) || (asked == "owner" && $0 ~ /^refused 12 6 0 20 6 /)
 }
 
 function of_rows(n) {
