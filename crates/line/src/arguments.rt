@@ -1,4 +1,5 @@
 // The words of the command line, and what they ask.
+use crate::show::names::table_of;
 use anyhow::{Context, Result, bail};
 use packing::PackKind;
 use std::{env, io};
@@ -58,6 +59,7 @@ pub(crate) enum Command<'a> {
     Tally {
         file: &'a str,
     },
+    Names,
 }
 
 // A command, and whether words are to say where a refusal finds its fault.
@@ -88,6 +90,7 @@ fn usage_of(command: &str) -> Option<&'static str> {
         "tally" => Some("FILE"),
         "show" => Some("DIR [STATION [TABLE [ROW]]]"),
         "picture" => Some("DIR [STATION]"),
+        "names" => Some("without more words"),
         _ => None,
     }
 }
@@ -116,7 +119,11 @@ fn number_at(words: &[&str], at: usize) -> Result<Option<u32>> {
     }
 }
 
+// A table by its name or by its number.
 fn table_at(words: &[&str], at: usize) -> Result<Option<u8>> {
+    if let Some(table) = words.get(at).and_then(|word| table_of(word)) {
+        return Ok(Some(table));
+    }
     let Some(table) = number_at(words, at)? else {
         return Ok(None);
     };
@@ -191,6 +198,7 @@ fn read_command<'a>(words: &[&'a str]) -> Result<Command<'a>> {
             scopes: number(scopes)?,
         }),
         ["tally", file] => Ok(Command::Tally { file: *file }),
+        ["names"] => Ok(Command::Names),
         [name, dir, rest @ ..] => match read_asked(name, rest)? {
             Some(asked) => Ok(Command::InDirectory { dir: *dir, asked }),
             None => no_command(words),

@@ -9,6 +9,7 @@ pub(crate) mod tallies;
 
 use crate::answer::Ended;
 use crate::arguments::{Command, Request};
+use crate::show::names::list_names;
 use anyhow::Result;
 use std::io::Write;
 
@@ -23,5 +24,9 @@ pub(crate) fn answer<W: Write>(rt: &HostRuntime, out: &mut W, request: Request) 
         }
         Command::Trees { scopes } => Ok(scope_trees::list(out, scopes)?),
         Command::Tally { file } => tallies::tally_file(rt, out, file),
+        Command::Names => {
+            list_names(out)?;
+            Ok(Ended::Yes)
+        }
     }
 }

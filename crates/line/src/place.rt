@@ -1,12 +1,141 @@
-// The words that say where a refusal finds its fault.
-use crate::image::{Image, Kind};
-use std::io;
+// Where a refusal is: its station, the rows that it is about, and what does not fit there.
+mod boundary;
+mod faults;
+mod identities;
+mod line_faults;
+mod packed;
+mod station;
 
-pub(crate) fn place<W: io::Write>(
-    _out: &mut W,
-    _image: &Image,
-    _kind: Kind,
-    _refusal: &[u64],
-) -> io::Result<()> {
+use crate::image::{Image, Kind};
+use crate::place::boundary::boundary_fault;
+use crate::place::faults::{named_row, write_fault};
+use crate::place::line_faults::line_fault;
+use crate::place::packed::packing_fault;
+use crate::place::station::{
+    BINDINGS, DEADLINES, REACTIONS, REACTORS, ROUTES, SCOPES, Station, own_station,
+    refused_station, station_at,
+};
+use crate::show::rows::RowText;
+use schema::row::Row;
+use schema::rows::EnclaveImage;
+use std::io;
+use std::io::Write;
+
+// The table of the identities of a kind.
+fn table_of_kind(kind: u64) -> u64 {
+    match kind {
+        5 => ROUTES,
+        6 => BINDINGS,
+        _ => u64::from(EnclaveImage::TABLE),
+    }
+}
+
+// The row that a refusal of a station names: its table and its number there.
+fn row_named(refusal: &[u64]) -> Option<(u64, u64)> {
+    match refusal {
+        [12..=17, table, index, ..] => Some((*table, *index)),
+        [18, scope] => Some((SCOPES, *scope)),
+        [19..=21, kind, index, ..] => Some((table_of_kind(*kind), *index)),
+        [22, reactor, ..] => Some((REACTORS, *reactor)),
+        [23..=25, table, index, ..] => Some((*table, *index)),
+        [29, _, route] => Some((ROUTES, *route)),
+        [30, _, scope] => Some((SCOPES, *scope)),
+        [32, reaction, _] => Some((REACTIONS, *reaction)),
+        [39, index] => Some((DEADLINES, *index)),
+        _ => None,
+    }
+}
+
+// The row before it, where the refusal comes of a comparison with that.
+fn row_before<'a>(
+    station: &Station<'a>,
+    table: u64,
+    index: u64,
+    refusal: &[u64],
+) -> Option<RowText<'a>> {
+    match refusal {
+        [14..=16, ..] | [20 | 21, 5 | 6, ..] => station.row(table, index.checked_sub(1)?),
+        _ => None,
+    }
+}
+
+// The other row that the refusal is about: the one that its field names, the station's own for its slots, the reaction that is triggered.
+fn other_row<'a>(station: &Station<'a>, row: RowText, refusal: &[u64]) -> Option<RowText<'a>> {
+    match refusal {
+        [17 | 24, _, _, field] => named_row(station, row, *field),
+        [23, ..] => Some(station.own_row()),
+        [32, _, target] => station.row(REACTIONS, *target),
+        _ => None,
+    }
+}
+
+fn write_row<W: Write>(out: &mut W, row: Option<RowText>) -> io::Result<()> {
+    if let Some(row) = row {
+        writeln!(out, "{row}")?;
+    }
     Ok(())
+}
+
+// The rows of a refusal of a station, the one that it names after the one before it.
+fn write_rows<W: Write>(out: &mut W, station: &Station, refusal: &[u64]) -> io::Result<()> {
+    let Some((table, index)) = row_named(refusal) else {
+        return Ok(());
+    };
+    write_row(out, row_before(station, table, index, refusal))?;
+    let Some(row) = station.row(table, index) else {
+        return Ok(());
+    };
+    writeln!(out, "{row}")?;
+    write_row(out, other_row(station, row, refusal))
+}
+
+// A refusal of a station: its place and its identity, the rows, and what does not fit.
+fn station_fault<W: Write>(
+    out: &mut W,
+    station: Option<Station>,
+    refusal: &[u64],
+) -> io::Result<()> {
+    let Some(station) = station else {
+        return Ok(());
+    };
+    writeln!(out, "{}", station.text)?;
+    write_rows(out, &station, refusal)?;
+    write_fault(out, &station, refusal)
+}
+
+// A refusal that a station of the image has by itself, else one of the line as a whole.
+fn check_fault<W: Write>(
+    out: &mut W,
+    image: &Image,
+    kind: Kind,
+    refusal: &[u64],
+) -> io::Result<()> {
+    let station = refused_station(image, kind, refusal);
+    if station.is_none() {
+        return line_fault(out, image, kind, refusal);
+    }
+    station_fault(out, station, refusal)
+}
+
+// Where a refusal of an image is, in lines: its numbers are the refusal's own first, as a check of the image answered them. Of numbers that no check gives, and
+// of refusals that are about what a host lends, there is nothing to say.
+pub(crate) fn place<W: Write>(
+    out: &mut W,
+    image: &Image,
+    kind: Kind,
+    refusal: &[u64],
+) -> io::Result<()> {
+    match refusal {
+        [1..=6, ..] => packing_fault(out, image, refusal),
+        [12..=25, ..] | [39, ..] => check_fault(out, image, kind, refusal),
+        [26..=28, ..] => boundary_fault(out, image, kind, refusal),
+        [29..=31, station, ..] => station_fault(out, station_at(image, kind, *station), refusal),
+        [32, ..] => station_fault(out, own_station(image), refusal),
+        [35] => writeln!(
+            out,
+            "the pack has {} records, from 0 on",
+            image.pack.len() / 64
+        ),
+        _ => Ok(()),
+    }
 }
