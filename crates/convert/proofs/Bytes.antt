@@ -5,7 +5,7 @@ use Rattle.schema.specs.Number.{number}
 use Rattle.schema.specs.Layout.{bytes, offset, field_at}
 use Rattle.schema.specs.Bytes.{Whole, IsRecord, byte_of}
 use Rattle.packing.specs.Shape.{layout_of}
-use Rattle.packing.proofs.Tables.{used_most}
+use Rattle.packing.proofs.Limits.{used_most}
 use Rattle.convert.specs.Turned.{other, turned_byte, turned, low_first}
 use Rattle.convert.specs.Promises.{TurnsNumbers, KeepsRest}
 use Rattle.convert.proofs.Ends.{field_upto, field_ends, field_from, in_head, in_numbers, other_past, other_inside, other_twice}

@@ -1,4 +1,5 @@
 pub mod Zeros
+pub mod Limits
 pub mod Tables
 pub mod TableStarts
 pub mod Packed

@@ -1,5 +1,5 @@
 -- Runs of clean records of one table. Assumes nothing.
-use Rattle.std.proofs.Common.{ℕ, zero, suc, ◌+◌, ◌-◌, ◌/◌, ◌<◌, ◌≤◌, Bool, true, false, ◌&&◌, ◌≡◌, refl, ◌∙◌, sym, List, ltb, eqb, length, add-zero, arith}
+use Rattle.std.proofs.Common.{ℕ, zero, suc, ◌+◌, ◌-◌, ◌/◌, ◌<◌, ◌≤◌, true, false, ◌≡◌, refl, ◌∙◌, sym, List, ltb, eqb, length, add-zero, arith}
 use borrow.Author.Tests.{eqb-true, le-leb, ne_eqb}
 use Rattle.std.specs.Prelude.{Option, Some, None, MatchOption}
 use Rattle.std.specs.Option.{unwrap_or}
@@ -13,21 +13,9 @@ use Rattle.packing.specs.declared.PackKind.{PackKind}
 use Rattle.packing.specs.declared.PackKind.TheVariants.{Enclave, Federate}
 use Rattle.packing.specs.Shape.{layout_of, shape_of}
 use Rattle.packing.specs.Packing.{table_after, in_place, record_checks}
-use Rattle.packing.specs.Clean.{head_clean, tail_clean, fields_clean, kind_clean, clean}
+use Rattle.packing.specs.Clean.{clean}
 use Rattle.packing.specs.Runs.{CleanRun}
 use Rattle.identity.proofs.Tests.{cases, below_or_not, both}
-
--- a record is clean by its parts: the bytes past its fields, bytes 1 to 3 and the governed fields, and what its table asks beside
-parts_turned : (head tail absent kind : Bool) → (tail && (head && absent)) && kind ≡ (head && (tail && absent)) && kind
-parts_turned true true absent kind = refl
-parts_turned true false absent kind = refl
-parts_turned false true absent kind = refl
-parts_turned false false absent kind = refl
-
-pub clean_parts : (p : List ℕ) (t n : ℕ) (tail fields kind : Bool) → t ≡ byte_of p n 0 → tail ≡ tail_clean (layout_of t) p n → fields ≡ fields_clean (layout_of t) p n → kind ≡ kind_clean t p n → (tail && fields) && kind ≡ clean p n
-unfolding clean
-clean_parts p t n tail fields kind e a b c =
-    rw (a, b, c, e) (parts_turned (head_clean (layout_of (byte_of p n 0)) p n) (tail_clean (layout_of (byte_of p n 0)) p n) _ (kind_clean (byte_of p n 0) p n))
 
 -- record k is a clean one of table t
 abbrev pub CleanOf : List ℕ → ℕ → ℕ → Type 0

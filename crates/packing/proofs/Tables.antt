@@ -1,5 +1,5 @@
 -- What holds of every table's layout, by computing over the list of layouts. Assumes nothing.
-use Prim.Native.Nat.{ℕ, zero, suc, ◌+◌, ◌*◌, ◌%◌, ◌<◌, ◌≤◌}
+use Prim.Native.Nat.{ℕ, zero, suc, ◌+◌, ◌*◌, ◌<◌, ◌≤◌}
 use mathlib.Core.Bool.{Bool, true, ◌&&◌}
 use mathlib.Core.Path.{◌≡◌, refl}
 use mathlib.Core.List.{List, [], ◌∷◌}
@@ -11,7 +11,7 @@ use Rattle.identity.proofs.Tests.{cases, both}
 use Rattle.schema.specs.Number.{number}
 use Rattle.schema.specs.Layout.{Layout, plain, layouts, bytes, offset, field_at}
 use Rattle.schema.specs.Rows.{field}
-use Rattle.packing.specs.Shape.{layout_of, used, governed_offset, governed_bytes, governed, start_in, bytes_in, shape_of}
+use Rattle.packing.specs.Shape.{layout_of}
 
 -- a test holds of every layout of a list
 unfoldable pub every : (Layout → Bool) → List Layout → Bool
@@ -23,67 +23,6 @@ unfolding every
 every-at f [] d t e h = h
 every-at f (l ∷ ls) d zero e h = (both (f l) (every f ls) e).0
 every-at f (l ∷ ls) d (suc t) e h = every-at f ls d t (both (f l) (every f ls) e).1 h
-
--- a layout uses whole words of the record
-words_used : Layout → Bool
-words_used l = leb (used l) 64 && eqb (used l % 4) 0
-
-used_words : (t : ℕ) → words_used (layout_of t) ≡ true
-unfolding layouts every words_used
-used_words t = every-at words_used layouts (plain []) t refl refl
-
-pub used_most : (t : ℕ) → used (layout_of t) ≤ 64
-unfolding words_used
-used_most t = leb-true _ _ (both _ _ (used_words t)).0
-
-pub used_whole : (t : ℕ) → used (layout_of t) % 4 ≡ 0
-unfolding words_used
-used_whole t = eqb-true _ _ (both _ _ (used_words t)).1
-
--- the fields that a bit governs are none, a W or two, inside the record
-inside : ℕ → Layout → Bool
-inside k l =
-    leb (start_in (governed k l) + bytes_in (governed k l)) 64
-    && (eqb (start_in (governed k l)) (governed_offset k 4 l.fields) && eqb (bytes_in (governed k l)) (governed_bytes k l.fields))
-
-inside_0 : (t : ℕ) → inside 0 (layout_of t) ≡ true
-unfolding layouts every inside
-inside_0 t = every-at (inside 0) layouts (plain []) t refl refl
-
-inside_1 : (t : ℕ) → inside 1 (layout_of t) ≡ true
-unfolding layouts every inside
-inside_1 t = every-at (inside 1) layouts (plain []) t refl refl
-
-module _ (k : ℕ) (l : Layout) (e : inside k l ≡ true) where
-  in_record : start_in (governed k l) + bytes_in (governed k l) ≤ 64
-  unfolding inside
-  in_record = leb-true _ _ (both _ _ e).0
-
-  same_start : start_in (governed k l) ≡ governed_offset k 4 l.fields
-  unfolding inside
-  same_start = eqb-true _ _ (both _ _ (both _ _ e).1).0
-
-  same_bytes : bytes_in (governed k l) ≡ governed_bytes k l.fields
-  unfolding inside
-  same_bytes = eqb-true _ _ (both _ _ (both _ _ e).1).1
-
-pub record_0 : (t : ℕ) → start_in (shape_of t).bit_0 + bytes_in (shape_of t).bit_0 ≤ 64
-record_0 t = in_record 0 (layout_of t) (inside_0 t)
-
-pub start_0 : (t : ℕ) → start_in (shape_of t).bit_0 ≡ governed_offset 0 4 (layout_of t).fields
-start_0 t = same_start 0 (layout_of t) (inside_0 t)
-
-pub bytes_0 : (t : ℕ) → bytes_in (shape_of t).bit_0 ≡ governed_bytes 0 (layout_of t).fields
-bytes_0 t = same_bytes 0 (layout_of t) (inside_0 t)
-
-pub record_1 : (t : ℕ) → start_in (shape_of t).bit_1 + bytes_in (shape_of t).bit_1 ≤ 64
-record_1 t = in_record 1 (layout_of t) (inside_1 t)
-
-pub start_1 : (t : ℕ) → start_in (shape_of t).bit_1 ≡ governed_offset 1 4 (layout_of t).fields
-start_1 t = same_start 1 (layout_of t) (inside_1 t)
-
-pub bytes_1 : (t : ℕ) → bytes_in (shape_of t).bit_1 ≡ governed_bytes 1 (layout_of t).fields
-bytes_1 t = same_bytes 1 (layout_of t) (inside_1 t)
 
 -- a test holds of every number below k
 unfoldable pub below : (ℕ → Bool) → ℕ → Bool
@@ -138,5 +77,3 @@ module _ (t j : ℕ) (h : j < (layout_of t).identities) where
       rw e at (w_field (layout_of t) (2 * j + 1) (8 + 8 * j) p n parts.1)
 
 pub ruleset identity_laws = (identities_few, identity_start, identity_len)
-
-pub ruleset table_laws = (used_most, used_whole, record_0, start_0, bytes_0, record_1, start_1, bytes_1)

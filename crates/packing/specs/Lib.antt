@@ -1,4 +1,5 @@
 pub mod Shape
+pub mod Limits
 pub mod Records
 pub mod Clean
 pub mod Packing

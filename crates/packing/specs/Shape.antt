@@ -1,10 +1,8 @@
--- What the packing rules ask of a table's layout: how many bytes it uses, and which bytes a presence bit governs. Assumes nothing.
-use Rattle.std.specs.Prelude.{ℕ, zero, suc, ◌+◌, Bool, false, cond, List, [], ◌∷◌, eqb, get_or}
+-- What the packing rules ask of a table's layout: how many bytes it uses, which bytes a presence bit governs, and the most that each byte may be. Assumes nothing.
+use Rattle.std.specs.Prelude.{ℕ, ◌+◌, ◌*◌, Bool, false, not, ◌&&◌, ◌||◌, cond, List, [], ◌∷◌, map, eqb, ltb, leb, get_or}
+use Rattle.std.specs.List.{range_with_len}
 use Rattle.schema.specs.Layout.{Field, W, D, W-if, bytes, Layout, plain, layouts}
-use Rattle.std.specs.declared.option.Option.{Option}
-use Rattle.std.specs.declared.option.Option.TheVariants.{None, Some}
-use Rattle.packing.specs.declared.shape.Governed.{Governed}
-use Rattle.packing.specs.declared.shape.Governed.TheVariants.{Word, Long}
+use Rattle.schema.specs.Bytes.{bit_of}
 use Rattle.packing.specs.declared.shape.Shape.{Shape}
 
 -- the layout of a table; past the last table no byte is used
@@ -33,34 +31,30 @@ abbrev pub governed_bytes : ℕ → List Field → ℕ
 governed_bytes k [] = 0
 governed_bytes k (f ∷ fs) = cond (governs k f) (bytes f) 0 + governed_bytes k fs
 
--- n governed bytes from byte o on: none, a W, or two
-abbrev pub governed_at : ℕ → ℕ → Option Governed
-governed_at o zero = None
-governed_at o (suc n) = Some (cond (eqb n 3) (Word o) (Long o))
+-- byte j belongs to a field that bit k governs, and byte 1 is b, where that bit is 0
+abbrev pub absent_at : ℕ → Layout → ℕ → ℕ → Bool
+absent_at k l b j =
+    let o = governed_offset k 4 l.fields in
+    not (bit_of b k) && (leb o j && ltb j (o + governed_bytes k l.fields))
 
-abbrev pub governed : ℕ → Layout → Option Governed
-governed k l = governed_at (governed_offset k 4 l.fields) (governed_bytes k l.fields)
+-- byte j, from 4 on, is one of no field that is there
+abbrev pub unused_at : Layout → ℕ → ℕ → Bool
+unused_at l b j = leb (used l) j || (absent_at 0 l b j || absent_at 1 l b j)
 
--- where such bytes start, and how many they are; 0 and 0 where there are none
-abbrev pub start_in : Option Governed → ℕ
-start_in None = 0
-start_in (Some (Word o)) = o
-start_in (Some (Long o)) = o
+-- the most that byte j of a record of layout l may be, where the lowest two bits of byte 1 are b
+abbrev pub limit : Layout → ℕ → ℕ → ℕ
+limit l b j = get_or (255 ∷ l.bits ∷ l.kinds ∷ 0 ∷ []) j (cond (unused_at l b j) 0 255)
 
-abbrev pub bytes_in : Option Governed → ℕ
-bytes_in None = 0
-bytes_in (Some (Word o)) = 4
-bytes_in (Some (Long o)) = 8
+-- that of every byte, word by word
+unfoldable pub limits : Layout → ℕ → List (List ℕ)
+limits l b = map (λ w. map (λ i. limit l b (w * 4 + i)) (range_with_len 0 4)) (range_with_len 0 16)
 
 abbrev pub shape : Layout → Shape
 shape l =
     record {
-      bits = l.bits;
-      kinds = l.kinds;
       used = used l;
       identities = l.identities;
-      bit_0 = governed 0 l;
-      bit_1 = governed 1 l;
+      limits = map (limits l) (range_with_len 0 4);
     }
 
 abbrev pub shape_of : ℕ → Shape

@@ -1,59 +1,37 @@
 // A record without stray bytes, bits or kinds, whose absent fields are zero (refusal 4).
-ghost use Rattle.std.specs.Prelude.{◌≡◌, ◌&&◌, ◌+◌, ◌*◌, ◌-◌, ◌/◌, ◌%◌, ◌≤◌, length, leb, eqb};
+ghost use Rattle.std.specs.Prelude.{◌≡◌, ◌&&◌, ◌+◌, ◌*◌, ◌-◌, ◌/◌, ◌%◌, ◌≤◌, length};
+ghost use Rattle.std.specs.List.{flat_map};
 ghost use Rattle.schema.specs.Bytes.{byte_of};
-ghost use Rattle.packing.specs.Clean.{zeros, fields_clean, timing_clean, kind_clean, clean};
+ghost use Rattle.packing.specs.Clean.{zeros, timing_clean, kind_clean, clean_by, clean};
 ghost use Rattle.packing.specs.Runs.{CleanRun};
-ghost use Rattle.packing.specs.Shape.{layout_of, start_in, bytes_in, shape_of};
+ghost use Rattle.packing.specs.Shape.{layout_of, shape_of};
+ghost use Rattle.packing.specs.Limits.{within};
 
-use crate::shape::{Governed, Shape};
+use crate::shape::{Limits, Shape};
 use schema::record::Record;
 use schema::row::Row;
 use schema::rows::{ActionImage, ReactionImage};
 
-// Whether the bytes of a record from byte `used` on, whole Ws, are zero. No branch among them: `all` would stop at the first that is not.
-#[tactic(auto, using(crate::proofs::Zeros::word_laws))]
-fn rest_zero(item: Record, used: u8) -> bool
-    requires in_record { used ≤ 64 }
-    requires words { used % 4 ≡ 0 }
-    ensures { result ≡ zeros item.entry.bytes.now (item.entry.number * 64 + used) (64 - used) }
+// Whether each byte of a record is at most its limit. No branch among them: `all` would stop at the first that is not.
+#[tactic(auto, using(crate::proofs::Limits::within_laws))]
+fn within(item: Record, limits: &Limits) -> bool
+    ensures { result ≡ within item.entry.bytes.now (item.entry.number * 64) (flat_map (λ x. x) limits.now) 64 }
 {
+    let limits = limits.as_flattened();
     let mut all = true;
-    for j in 0..16u8 {
-        all &= (j * 4 < used) | (item.word(usize::from(j) * 4) == 0);
+    for j in 0..64 {
+        all &= item.byte(j) <= limits[j];
     }
     all
 }
 
-// Whether the bytes that a presence bit governs, none, a W or two, are zero.
-#[tactic(auto, using(crate::proofs::Zeros::zeros_laws))]
-fn field_zero(item: Record, field: Option<Governed>) -> bool
-    requires in_record { start_in field + bytes_in field ≤ 64 }
-    ensures { result ≡ zeros item.entry.bytes.now (item.entry.number * 64 + start_in field) (bytes_in field) }
-{
-    match field {
-        None => true,
-        Some(Governed::Word(at)) => item.word(usize::from(at)) == 0,
-        Some(Governed::Long(at)) => item.long(usize::from(at)) == 0,
-    }
-}
-
-// Bytes 1 to 3.
-fn head_clean(shape: Shape, bits: u8, kind: u8, last: u8) -> bool
-    ensures { result ≡ (leb bits shape.bits && (leb kind shape.kinds && eqb last 0)) }
-{
-    bits <= shape.bits && kind <= shape.kinds && last == 0
-}
-
-// Bytes 1 to 3 of a record and the fields that its presence bits govern, by the shape of its table.
-#[tactic(auto, using(crate::proofs::Tables::table_laws))]
+// Whether bytes 1 to 3 of a record, the fields that its presence bits govern and the bytes past its fields are as its table's shape has them.
 #[inline(always)]
-fn fields_clean(item: Record, shape: Shape) -> bool
-    requires { shape ≡ shape_of (byte_of item.bytes.now item.number 0) }
-    ensures { let p = item.entry.bytes.now in let n = item.entry.number in result ≡ fields_clean (layout_of (byte_of p n 0)) p n }
+fn fields_clean(item: Record, shape: &Shape) -> bool
+    requires { shape.now ≡ shape_of (byte_of item.bytes.now item.number 0) }
+    ensures { let p = item.entry.bytes.now in let n = item.entry.number in result ≡ clean_by (layout_of (byte_of p n 0)) p n }
 {
-    head_clean(shape, item.byte(1), item.byte(2), item.byte(3))
-        && (item.has(0) || field_zero(item, shape.bit_0))
-        && (item.has(1) || field_zero(item, shape.bit_1))
+    within(item, &shape.limits[usize::from(item.byte(1) % 4)])
 }
 
 // The bit and the D of an action's timing.
@@ -77,23 +55,23 @@ fn kind_clean(item: Record, table: u8) -> bool
 }
 
 // Whether a record of `table`, whose shape it is, is clean.
-#[tactic(auto, using(crate::proofs::Tables::table_laws, crate::proofs::Runs::clean_parts))]
+#[tactic(auto, unfolding(crate::specs::Clean::clean))]
 #[inline(always)]
-pub fn clean(item: Record, table: u8, shape: Shape) -> bool
+pub fn clean(item: Record, table: u8, shape: &Shape) -> bool
     requires own { table ≡ byte_of item.bytes.now item.number 0 }
-    requires shaped { shape ≡ shape_of table }
+    requires shaped { shape.now ≡ shape_of table }
     ensures { result ≡ clean item.entry.bytes.now item.entry.number }
 {
-    rest_zero(item, shape.used) & fields_clean(item, shape) & kind_clean(item, table)
+    fields_clean(item, shape) & kind_clean(item, table)
 }
 
 // The first record from n on, before `end`, that is not a clean one of `table`, whose shape it is, or `end`: of any bytes, so that they go beside the places.
 // The two stand side by side: with the shape found for each record, refused-last-record of 256 KiB in ./bench goes from 0.49 of the Rust with packing rules
 // to 0.70, over the bar of 0.6. A struct of the two would be made for this function and `clean` alone.
-pub fn past_clean(p: &[u8], n: usize, end: usize, table: u8, shape: Shape) -> usize
+pub fn past_clean(p: &[u8], n: usize, end: usize, table: u8, shape: &Shape) -> usize
     requires from { n ≤ end }
     requires inside { end ≤ length p.now / 64 }
-    requires shaped { shape ≡ shape_of table }
+    requires shaped { shape.now ≡ shape_of table }
     ensures { CleanRun p.now table n end result }
 {
     (n..end)

@@ -128,8 +128,8 @@ impl<'a> Named<'a> {
 
     // The checks of the record, by the shape of its table, in a pack of that kind.
     #[tactic(auto, unfolding(answers::specs::Checks::first, crate::specs::Packing::record_checks))]
-    fn check(self, kind: PackKind, shape: Shape) -> Result<(), Refusal>
-        requires { shape ≡ shape_of (byte_of self.item.bytes.now self.item.number 0) }
+    fn check(self, kind: PackKind, shape: &Shape) -> Result<(), Refusal>
+        requires { shape.now ≡ shape_of (byte_of self.item.bytes.now self.item.number 0) }
         ensures { let r = self.entry.item in let t = self.entry.texts in result ≡ first (record_checks kind r.bytes.now t.batch.now t.house.now r.number) }
     {
         if !in_place(kind, self.item) {

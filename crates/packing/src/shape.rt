@@ -4,130 +4,152 @@ ghost use Rattle.packing.specs.Shape.{shape_of};
 
 use schema::lent::TABLES;
 
-// The bytes of a record that a presence bit governs: a W or two, from an offset.
-#[derive(Clone, Copy)]
-pub enum Governed {
-    Word(u8),
-    Long(u8),
-}
+// The largest value of each byte of a record, word by word.
+pub type Limits = [[u8; 4]; 16];
 
-// The largest byte 1 and byte 2, how many bytes are used, how many identities there are, and what bits 0 and 1 of byte 1 govern.
-#[derive(Clone, Copy)]
+// Where the fields end, how many identities there are, and the limits for each value of bits 0 and 1 of byte 1, which say what fields there are.
 pub struct Shape {
-    pub bits: u8,
-    pub kinds: u8,
     pub used: u8,
     pub identities: u8,
-    pub bit_0: Option<Governed>,
-    pub bit_1: Option<Governed>,
+    pub limits: [Limits; 4],
 }
 
+// The word before the fields: any table, the largest of bytes 1 and 2 (the bits and the kinds), and a zero.
+const B0: [u8; 4] = [255, 0, 0, 0];
+
+const B1: [u8; 4] = [255, 1, 0, 0];
+
+const B3: [u8; 4] = [255, 3, 0, 0];
+
+const B7: [u8; 4] = [255, 7, 0, 0];
+
+const B1_K3: [u8; 4] = [255, 1, 3, 0];
+
+const B3_K1: [u8; 4] = [255, 3, 1, 0];
+
+const B3_K3: [u8; 4] = [255, 3, 3, 0];
+
+// A word that a field has, and one that none has.
+const W: [u8; 4] = [255; 4];
+
+const Z: [u8; 4] = [0; 4];
+
 // A record of its table number alone.
-const NO_FIELDS: Shape = Shape {
-    bits: 0,
-    kinds: 0,
+static NO_FIELDS: Shape = Shape {
     used: 4,
     identities: 0,
-    bit_0: None,
-    bit_1: None,
+    limits: [[B0, Z, Z, Z, Z, Z, Z, Z, Z, Z, Z, Z, Z, Z, Z, Z]; 4],
 };
 
 const FEDERATE: Shape = Shape {
-    bits: 7,
     used: 44,
     identities: 3,
-    ..NO_FIELDS
+    limits: [[B7, W, W, W, W, W, W, W, W, W, W, Z, Z, Z, Z, Z]; 4],
 };
 
 const ENCLAVE: Shape = Shape {
-    bits: 1,
     used: 48,
     identities: 1,
-    ..NO_FIELDS
+    limits: [[B1, W, W, W, W, W, W, W, W, W, W, W, Z, Z, Z, Z]; 4],
 };
 
 const REACTORS: Shape = Shape {
-    bits: 3,
     used: 44,
-    bit_0: Some(Governed::Word(32)),
-    bit_1: Some(Governed::Long(36)),
-    ..NO_FIELDS
+    identities: 0,
+    limits: [
+        [B3, W, W, W, W, W, W, W, Z, Z, Z, Z, Z, Z, Z, Z],
+        [B3, W, W, W, W, W, W, W, W, Z, Z, Z, Z, Z, Z, Z],
+        [B3, W, W, W, W, W, W, W, Z, W, W, Z, Z, Z, Z, Z],
+        [B3, W, W, W, W, W, W, W, W, W, W, Z, Z, Z, Z, Z],
+    ],
 };
 
 const ACTIONS: Shape = Shape {
-    bits: 3,
-    kinds: 3,
     used: 32,
-    bit_0: Some(Governed::Word(12)),
-    ..NO_FIELDS
+    identities: 0,
+    limits: [
+        [B3_K3, W, W, Z, W, W, W, W, Z, Z, Z, Z, Z, Z, Z, Z],
+        [B3_K3, W, W, W, W, W, W, W, Z, Z, Z, Z, Z, Z, Z, Z],
+        [B3_K3, W, W, Z, W, W, W, W, Z, Z, Z, Z, Z, Z, Z, Z],
+        [B3_K3, W, W, W, W, W, W, W, Z, Z, Z, Z, Z, Z, Z, Z],
+    ],
 };
 
 const PORTS: Shape = Shape {
     used: 20,
-    ..NO_FIELDS
+    identities: 0,
+    limits: [[B0, W, W, W, W, Z, Z, Z, Z, Z, Z, Z, Z, Z, Z, Z]; 4],
 };
 
 const REACTIONS: Shape = Shape {
-    bits: 3,
-    kinds: 1,
     used: 56,
-    bit_1: Some(Governed::Word(52)),
-    ..NO_FIELDS
+    identities: 0,
+    limits: [
+        [B3_K1, W, W, W, W, W, W, W, W, W, W, W, W, Z, Z, Z],
+        [B3_K1, W, W, W, W, W, W, W, W, W, W, W, W, Z, Z, Z],
+        [B3_K1, W, W, W, W, W, W, W, W, W, W, W, W, W, Z, Z],
+        [B3_K1, W, W, W, W, W, W, W, W, W, W, W, W, W, Z, Z],
+    ],
 };
 
 // Modes have a constant of their own beside levels' equal one, and deadlines and startups beside lifecycles': the papers have a layout for each table.
 const MODES: Shape = Shape {
     used: 12,
-    ..NO_FIELDS
+    identities: 0,
+    limits: [[B0, W, W, Z, Z, Z, Z, Z, Z, Z, Z, Z, Z, Z, Z, Z]; 4],
 };
 
 const SCOPES: Shape = Shape {
-    bits: 3,
     used: 64,
-    bit_0: Some(Governed::Word(4)),
-    bit_1: Some(Governed::Word(12)),
-    ..NO_FIELDS
+    identities: 0,
+    limits: [
+        [B3, Z, W, Z, W, W, W, W, W, W, W, W, W, W, W, W],
+        [B3, W, W, Z, W, W, W, W, W, W, W, W, W, W, W, W],
+        [B3, Z, W, W, W, W, W, W, W, W, W, W, W, W, W, W],
+        [B3, W, W, W, W, W, W, W, W, W, W, W, W, W, W, W],
+    ],
 };
 
 const LEVELS: Shape = Shape {
     used: 12,
-    ..NO_FIELDS
+    identities: 0,
+    limits: [[B0, W, W, Z, Z, Z, Z, Z, Z, Z, Z, Z, Z, Z, Z, Z]; 4],
 };
 
 const INDEXES: Shape = Shape {
     used: 8,
-    ..NO_FIELDS
+    identities: 0,
+    limits: [[B0, W, Z, Z, Z, Z, Z, Z, Z, Z, Z, Z, Z, Z, Z, Z]; 4],
 };
 
 const STARTUPS: Shape = Shape {
     used: 16,
-    ..NO_FIELDS
+    identities: 0,
+    limits: [[B0, W, W, W, Z, Z, Z, Z, Z, Z, Z, Z, Z, Z, Z, Z]; 4],
 };
 
 const LIFECYCLES: Shape = Shape {
     used: 16,
-    ..NO_FIELDS
+    identities: 0,
+    limits: [[B0, W, W, W, Z, Z, Z, Z, Z, Z, Z, Z, Z, Z, Z, Z]; 4],
 };
 
 const ROUTES: Shape = Shape {
-    bits: 1,
-    kinds: 3,
     used: 24,
     identities: 1,
-    ..NO_FIELDS
+    limits: [[B1_K3, W, W, W, W, W, Z, Z, Z, Z, Z, Z, Z, Z, Z, Z]; 4],
 };
 
 const BINDINGS: Shape = Shape {
-    bits: 1,
-    kinds: 3,
     used: 12,
     identities: 1,
-    ..NO_FIELDS
+    limits: [[B1_K3, W, W, Z, Z, Z, Z, Z, Z, Z, Z, Z, Z, Z, Z, Z]; 4],
 };
 
 const DEADLINES: Shape = Shape {
     used: 16,
-    ..NO_FIELDS
+    identities: 0,
+    limits: [[B0, W, W, W, Z, Z, Z, Z, Z, Z, Z, Z, Z, Z, Z, Z]; 4],
 };
 
 // Table by table, from 0 on: data in an array, since a table is a number.
@@ -138,12 +160,12 @@ static SHAPES: [Shape; TABLES] = [
 ];
 
 // The shape of a table; past the last table no field is used.
-pub fn shape_of(table: u8) -> Shape
-    ensures { result ≡ shape_of table }
+pub fn shape_of(table: u8) -> &'static Shape
+    ensures { result.now ≡ shape_of table }
 {
     let t = usize::from(table);
     if t < TABLES {
-        return SHAPES[t];
+        return &SHAPES[t];
     }
-    NO_FIELDS
+    &NO_FIELDS
 }

@@ -8,7 +8,7 @@ use crate::show::rows::{RowText, Rows};
 use crate::show::words::PlaceText;
 use identity::IdentityPlace;
 use identity::texts::Texts;
-use packing::shape::{Governed, Shape, shape_of};
+use packing::shape::{Limits, shape_of};
 use schema::lent::TABLES;
 use schema::record::Record;
 use schema::row::Row;
@@ -40,49 +40,17 @@ fn write_place<W: Write>(out: &mut W, before: Option<u8>, table: u8) -> io::Resu
     }
 }
 
-// The first byte that is not zero of so many from one on.
-fn first_byte(record: Record, from: usize, len: usize) -> Option<usize>
+// The first byte that is over its limit: one that its table does not use, or whose field is absent.
+fn stray_byte(record: Record, limits: &Limits) -> Option<usize>
     ensures { IfSome result (λ j. j < 64) }
 {
+    let limits = limits.as_flattened();
     for j in 0..64usize {
-        if from <= j && j - from < len && record.byte(j) != 0 {
+        if limits[j] < record.byte(j) {
             return Some(j);
         }
     }
     None
-}
-
-// The first byte that is not zero of a field that its presence bit says is absent.
-fn absent_byte(record: Record, present: bool, field: Option<Governed>) -> Option<usize>
-    ensures { IfSome result (λ j. j < 64) }
-{
-    match field {
-        Some(Governed::Word(at)) if !present => first_byte(record, usize::from(at), 4),
-        Some(Governed::Long(at)) if !present => first_byte(record, usize::from(at), 8),
-        _ => None,
-    }
-}
-
-// The byte that its table does not use, or whose field is absent.
-fn stray_byte(record: Record, shape: Shape) -> Option<usize>
-    ensures { IfSome result (λ j. j < 64) }
-{
-    if shape.bits < record.byte(1) {
-        return Some(1);
-    }
-    if shape.kinds < record.byte(2) {
-        return Some(2);
-    }
-    if record.byte(3) != 0 {
-        return Some(3);
-    }
-    if let Some(at) = first_byte(record, usize::from(shape.used), 64) {
-        return Some(at);
-    }
-    if let Some(at) = absent_byte(record, record.has(0), shape.bit_0) {
-        return Some(at);
-    }
-    absent_byte(record, record.has(1), shape.bit_1)
 }
 
 // A kind that does not go with the fields of its action or reaction.
@@ -109,7 +77,8 @@ fn write_kind<W: Write>(out: &mut W, record: Record) -> io::Result<()> {
 // A stray byte, bit or kind.
 fn write_stray<W: Write>(out: &mut W, record: Record) -> io::Result<()> {
     let shape = shape_of(record.table());
-    let Some(at) = stray_byte(record, shape) else {
+    let limits = &shape.limits[usize::from(record.byte(1) % 4)];
+    let Some(at) = stray_byte(record, limits) else {
         return write_kind(out, record);
     };
     let byte = record.byte(at);
@@ -117,12 +86,12 @@ fn write_stray<W: Write>(out: &mut W, record: Record) -> io::Result<()> {
         1 => writeln!(
             out,
             "byte 1 is {byte}, and all bits of its table together are {}",
-            shape.bits
+            limits[0][1]
         ),
         2 => writeln!(
             out,
             "byte 2 is {byte}, and the last kind of its table is {}",
-            shape.kinds
+            limits[0][2]
         ),
         3 => writeln!(out, "byte 3 is {byte}, and no table uses it"),
         _ if usize::from(shape.used) <= at => {

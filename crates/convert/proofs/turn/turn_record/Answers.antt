@@ -2,7 +2,7 @@
 use Rattle.std.proofs.Common.{◌≡◌, ◌+◌, ◌≤◌, rules, arith}
 use Rattle.packing.specs.Shape.{layout_of, used}
 use Rattle.schema.specs.Bytes.{byte_of}
-use Rattle.packing.proofs.Tables.{used_most}
+use Rattle.packing.proofs.Limits.{used_most}
 use Rattle.convert.proofs.TurnedRecord.{next_long, next_word, turning_step, turning_end}
 use Rattle.convert.proofs.turn.turn_record.Goals as goal
 
