@@ -7,7 +7,6 @@ use answers::Refusal;
 use packing::PackKind;
 use packing::clean::clean;
 use packing::rules::in_place;
-use packing::shape::shape_of;
 use schema::lent::Pack;
 use schema::record::Record;
 
@@ -17,13 +16,12 @@ fn check_shape(kind: PackKind, item: Record) -> Result<(), Refusal>
     requires { length item.bytes.now ≤ 4194304 }
     ensures { result ≡ first (shape_checks kind item.entry.bytes.now item.entry.number) }
 {
-    let table = item.table();
     if !in_place(kind, item) {
         return Err(Refusal::TableOutOfPlace {
             record: item.number as u32,
         });
     }
-    if !clean(item, table, shape_of(table)) {
+    if !clean(item) {
         return Err(Refusal::StrayByte {
             record: item.number as u32,
         });

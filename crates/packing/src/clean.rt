@@ -4,10 +4,10 @@ ghost use Rattle.std.specs.List.{flat_map};
 ghost use Rattle.schema.specs.Bytes.{byte_of};
 ghost use Rattle.packing.specs.Clean.{zeros, timing_clean, kind_clean, clean_by, clean};
 ghost use Rattle.packing.specs.Runs.{CleanRun};
-ghost use Rattle.packing.specs.Shape.{layout_of, shape_of};
+ghost use Rattle.packing.specs.Shape.{layout_of};
 ghost use Rattle.packing.specs.Limits.{within};
 
-use crate::shape::{Limits, Shape};
+use crate::shape::{Limits, shape_of};
 use schema::record::Record;
 use schema::row::Row;
 use schema::rows::{ActionImage, ReactionImage};
@@ -25,12 +25,12 @@ fn within(item: Record, limits: &Limits) -> bool
     all
 }
 
-// Whether bytes 1 to 3 of a record, the fields that its presence bits govern and the bytes past its fields are as its table's shape has them.
+// Whether bytes 1 to 3 of a record, the fields that its presence bits govern and the bytes past its fields are as its table's layout has them.
 #[inline(always)]
-fn fields_clean(item: Record, shape: &Shape) -> bool
-    requires { shape.now ≡ shape_of (byte_of item.bytes.now item.number 0) }
+fn fields_clean(item: Record) -> bool
     ensures { let p = item.entry.bytes.now in let n = item.entry.number in result ≡ clean_by (layout_of (byte_of p n 0)) p n }
 {
+    let shape = shape_of(item.table());
     within(item, &shape.limits[usize::from(item.byte(1) % 4)])
 }
 
@@ -44,40 +44,35 @@ fn timing_clean(item: Record) -> bool
 }
 
 // What is asked of actions and reactions beside their fields. A match on the table: document 01 asks it of these two tables by number.
-fn kind_clean(item: Record, table: u8) -> bool
-    ensures { result ≡ kind_clean table item.entry.bytes.now item.entry.number }
+fn kind_clean(item: Record) -> bool
+    ensures { let p = item.entry.bytes.now in let n = item.entry.number in result ≡ kind_clean (byte_of p n 0) p n }
 {
-    match table {
+    match item.table() {
         ActionImage::TABLE => timing_clean(item),
         ReactionImage::TABLE => item.has(1) || item.byte(2) == 0,
         _ => true,
     }
 }
 
-// Whether a record of `table`, whose shape it is, is clean.
+// Whether a record is clean.
 #[tactic(auto, unfolding(crate::specs::Clean::clean))]
 #[inline(always)]
-pub fn clean(item: Record, table: u8, shape: &Shape) -> bool
-    requires own { table ≡ byte_of item.bytes.now item.number 0 }
-    requires shaped { shape.now ≡ shape_of table }
+pub fn clean(item: Record) -> bool
     ensures { result ≡ clean item.entry.bytes.now item.entry.number }
 {
-    fields_clean(item, shape) & kind_clean(item, table)
+    fields_clean(item) & kind_clean(item)
 }
 
-// The first record from n on, before `end`, that is not a clean one of `table`, whose shape it is, or `end`: of any bytes, so that they go beside the places.
-// The two stand side by side: with the shape found for each record, refused-last-record of 256 KiB in ./bench goes from 0.49 of the Rust with packing rules
-// to 0.70, over the bar of 0.6. A struct of the two would be made for this function and `clean` alone.
-pub fn past_clean(p: &[u8], n: usize, end: usize, table: u8, shape: &Shape) -> usize
+// The first record from n on, before `end`, that is not a clean one of `table`, or `end`: of any bytes, so that they go beside the places.
+pub fn past_clean(p: &[u8], n: usize, end: usize, table: u8) -> usize
     requires from { n ≤ end }
     requires inside { end ≤ length p.now / 64 }
-    requires shaped { shape.now ≡ shape_of table }
     ensures { CleanRun p.now table n end result }
 {
     (n..end)
         .find(|k| {
             let record = Record::nth(p, *k);
-            record.is_none_or(|item| item.table() != table || !clean(item, table, shape))
+            record.is_none_or(|item| item.table() != table || !clean(item))
         })
         .unwrap_or(end)
 }

@@ -2,12 +2,12 @@
 ghost use Rattle.std.specs.Prelude.{◌≡◌, ◌/◌, ◌<◌, ◌≤◌, is_ok, IfErr, length, IfOk};
 ghost use Rattle.answers.specs.Checks.{first, run};
 ghost use Rattle.schema.specs.Bytes.{byte_of};
-ghost use Rattle.packing.specs.Shape.{layout_of, shape_of};
+ghost use Rattle.packing.specs.Shape.{layout_of};
 ghost use Rattle.packing.specs.Packing.{pack_fits, row_after, first_table, table_after, in_place, identity_at, identity_checks, record_checks, packing_checks, pack_outcome};
 
 use crate::PackKind;
 use crate::clean::{clean, past_clean};
-use crate::shape::{Shape, shape_of};
+use crate::shape::shape_of;
 use crate::walker::RecordWalker;
 use answers::Refusal;
 use identity::IdentityPlace;
@@ -126,10 +126,9 @@ impl<'a> Named<'a> {
         Ok(())
     }
 
-    // The checks of the record, by the shape of its table, in a pack of that kind.
+    // The checks of the record in a pack of that kind.
     #[tactic(auto, unfolding(answers::specs::Checks::first, crate::specs::Packing::record_checks))]
-    fn check(self, kind: PackKind, shape: &Shape) -> Result<(), Refusal>
-        requires { shape.now ≡ shape_of (byte_of self.item.bytes.now self.item.number 0) }
+    fn check(self, kind: PackKind) -> Result<(), Refusal>
         ensures { let r = self.entry.item in let t = self.entry.texts in result ≡ first (record_checks kind r.bytes.now t.batch.now t.house.now r.number) }
     {
         if !in_place(kind, self.item) {
@@ -137,12 +136,12 @@ impl<'a> Named<'a> {
                 record: self.number(),
             });
         }
-        if !clean(self.item, self.item.table(), shape) {
+        if !clean(self.item) {
             return Err(Refusal::StrayByte {
                 record: self.number(),
             });
         }
-        self.check_identities(shape.identities)
+        self.check_identities(shape_of(self.item.table()).identities)
     }
 }
 
@@ -157,10 +156,10 @@ fn check_records(kind: PackKind, pack: Pack, texts: Texts) -> Result<(), Refusal
     let mut walker = RecordWalker { pack, place: 0 };
     while let Some(item) = walker.next() {
         let table = item.table();
+        Named { item, texts }.check(kind)?;
         let shape = shape_of(table);
-        Named { item, texts }.check(kind, shape)?;
         if shape.identities == 0 {
-            walker.place = past_clean(pack.bytes, walker.place, pack.records(), table, shape);
+            walker.place = past_clean(pack.bytes, walker.place, pack.records(), table);
         }
     }
     Ok(())

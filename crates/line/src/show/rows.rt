@@ -7,7 +7,6 @@ use crate::show::fields::fields;
 use crate::show::words::{IdentityText, RowName, ValueText};
 use identity::texts::Texts;
 use packing::clean::clean;
-use packing::shape::shape_of;
 use schema::lent::TABLES;
 use schema::record::Record;
 use schema::row::{Row, Stored};
@@ -74,7 +73,7 @@ impl<'a> RowText<'a> {
     // Whether the record is one of a table, without a stray byte.
     fn is_clean(self) -> bool {
         let table = self.record.table();
-        usize::from(table) < TABLES && clean(self.record, table, shape_of(table))
+        usize::from(table) < TABLES && clean(self.record)
     }
 
     // Its fields, the first after a colon.
