@@ -58,10 +58,10 @@ module _ (p : List ℕ) (o : ℕ) where
   zeros-all (suc k) f = rw (zeros-all k (λ j h. f j (omega arith)), f k (omega arith)) refl
 
 -- two tests that hold together are one
-same-test : (a b : Bool) → (a ≡ true → b ≡ true) → (b ≡ true → a ≡ true) → a ≡ b
-same-test true b f g = sym (f refl)
-same-test false true f g = g refl
-same-test false false f g = refl
+same_test : (a b : Bool) → (a ≡ true → b ≡ true) → (b ≡ true → a ≡ true) → a ≡ b
+same_test true b f g = sym (f refl)
+same_test false true f g = g refl
+same_test false false f g = refl
 
 -- a byte with a limit below 255, and one without
 at-most-low : (m b : ℕ) → m < 255 → at_most m b ≡ leb b m
@@ -261,12 +261,12 @@ module _ (l : Layout) (good : tidy l ≡ true) (p : List ℕ) (n b : ℕ) (own :
     within-is : within p (n * 64) (flat_map (λ x. x) (limits l b)) 64 ≡ true
     within-is = within-all p (flat_map (λ x. x) (limits l b)) (n * 64) 64 (λ j h. rw (limit-at l b j h) (each j h))
 
-  one-test : within p (n * 64) (flat_map (λ x. x) (limits l b)) 64 ≡ clean_by l p n
-  one-test = same-test _ _ clean-is within-is
+  one_test : within p (n * 64) (flat_map (λ x. x) (limits l b)) 64 ≡ clean_by l p n
+  one_test = same_test _ _ clean-is within-is
 
 -- the limits by bits 0 and 1 of a record's byte 1, of its table's shape
 pub within-limits : (p : List ℕ) (n t b : ℕ) → b ≡ byte_of p n 1 % 4 → within p (n * 64) (flat_map (λ x. x) (limits (layout_of t) b)) 64 ≡ clean_by (layout_of t) p n
-within-limits p n t b e = one-test (layout_of t) (tidy-at t) p n b e
+within-limits p n t b e = one_test (layout_of t) (tidy-at t) p n b e
 
 pub limits-of : (t b : ℕ) → b < 4 → get_or (shape_of t).limits b [] ≡ limits (layout_of t) b
 limits-of t b h = get_or-map-range_with_len (limits (layout_of t)) 0 4 b b [] h (omega arith)
