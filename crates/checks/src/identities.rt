@@ -13,6 +13,7 @@ use identity::texts::Texts;
 use std::cmp::Ordering;
 
 // An identity of a row, whose text is lent, is valid.
+#[inline(always)]
 pub fn validate_text(id: StableId, text: &[u8]) -> Result<(), Refusal>
     ensures { result ≡ first (id_check (λ _. text.now) id.kind id.index id.id ∷ []) }
 {
@@ -24,6 +25,7 @@ pub fn validate_text(id: StableId, text: &[u8]) -> Result<(), Refusal>
 }
 
 // An identity of a row, by its place, is valid.
+#[inline(always)]
 pub fn validate_id(texts: Texts, id: StableId) -> Result<(), Refusal>
     ensures { result ≡ first (id_check (identity_text texts.entry.batch.now texts.entry.house.now) id.kind id.index id.id ∷ []) }
 {
@@ -31,6 +33,7 @@ pub fn validate_id(texts: Texts, id: StableId) -> Result<(), Refusal>
 }
 
 // An identity of a row differs from the one before, and is not below it; both texts are lent.
+#[inline(always)]
 pub fn validate_text_order(id: StableId, text: &[u8], previous: &[u8]) -> Result<(), Refusal>
     ensures { result ≡ first (text_order_checks id.kind id.index id.id text.now previous.now) }
 {
