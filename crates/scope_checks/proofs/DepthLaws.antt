@@ -1,5 +1,5 @@
 -- Depths: an array after a store, and one in which none is known. Assumes nothing.
-use Rattle.std.proofs.Common.{ℕ, zero, suc, ◌+◌, ◌<◌, ◌≡◌, Bool, true, false, List, length, get_or, refl, ◌∙◌, arith, eqb}
+use Rattle.std.proofs.Common.{ℕ, zero, suc, ◌+◌, ◌<◌, ◌≡◌, Bool, true, false, List, [], length, get_or, refl, ◌∙◌, arith, eqb}
 use Rattle.std.proofs.Math.ListN.{set, replicate}
 use Rattle.std.proofs.lemmas.List.{get_or-set_same, get_or-set_other}
 use borrow.Author.Tests.{eqb-true, eqb-false}
@@ -25,3 +25,6 @@ zeros (suc n) (suc i) = zeros n i
 pub known_none : (m : Image) (n : ℕ) → Known m (replicate n 0)
 unfolding Known
 known_none m n i h = absurd (omega (arith, zeros n i))
+
+pub known_nowhere : (m : Image) → Known m []
+known_nowhere m = known_none m 0

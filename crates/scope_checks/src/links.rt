@@ -14,6 +14,9 @@ use schema::lent::Enclave;
 use schema::row::Row;
 use schema::rows::ScopeImage;
 
+// Of so few scopes each walk is as short as to write depths and to look them up.
+const FEWEST: usize = 8;
+
 // Room for the depths of few scopes, of many, and of as many as a pack has records: 256 bytes, 16 KiB and 256 KiB of stack.
 const FEW: usize = 64;
 
@@ -79,6 +82,7 @@ fn settle(e: &Enclave, depths: &mut [u32], mut scope: ScopeIndex, mut depth: u32
 // The parents of every scope. Scopes past the depths' array are walked to the end each time. By `for`: each step may refuse, and writes depths, which `sum`
 // would leave to a closure.
 #[tactic(auto, using(answers::proofs::Loops::run_laws, crate::proofs::LinksLaws::below_laws), unfolding(crate::specs::Links::links_below))]
+#[inline(always)]
 fn follow_parents(e: &Enclave, depths: &mut [u32]) -> Result<u64, Refusal>
     requires { Known (image_of e.now) depths.old }
     ensures { result ≡ all_parents (image_of e.now) }
@@ -107,12 +111,16 @@ fn follow_with<const N: usize>(e: &Enclave) -> Result<u64, Refusal>
 }
 
 // The parents of every scope: the links followed, or the first scope whose parents do not end. Each scope's links are found once, with room for
-// as many depths as there are scopes.
+// as many depths as there are scopes, and with none for the fewest.
+#[tactic(auto, using(crate::proofs::DepthLaws::known_nowhere))]
+#[inline(always)]
 pub fn check_parents(e: &Enclave) -> Result<u64, Refusal>
     ensures { let m = image_of e.now in result ≡ answer_of (first (run (cycle_checks m) 0 (m.rows 7))) (links m) }
 {
     let scopes = e.rows(ScopeImage::TABLE) as usize;
-    if scopes <= FEW {
+    if scopes <= FEWEST {
+        follow_parents(e, &mut [])
+    } else if scopes <= FEW {
         follow_with::<FEW>(e)
     } else if scopes <= MANY {
         follow_with::<MANY>(e)
