@@ -71,6 +71,7 @@ pub fn entry_index(start: u32, k: u32) -> u32
 }
 
 // An entry's reaction is there, and has the entry's level.
+#[inline(always)]
 pub fn validate_level_ref(
     e: &Enclave,
     table: u8,
@@ -94,6 +95,7 @@ pub fn validate_level_ref(
 }
 
 // Entry `index` of a table is above the entry before it, by the order of what they hold.
+#[inline(always)]
 pub fn check_order<T: Copy + Ord>(table: u8, index: u32, entry: T, before: T) -> Result<(), Refusal>
     ensures { result ≡ first (order_checks table index (T.cmp entry before)) }
 {
@@ -106,6 +108,7 @@ pub fn check_order<T: Copy + Ord>(table: u8, index: u32, entry: T, before: T) ->
 
 // An entry shown as row `index` of a table, by itself.
 #[tactic(auto, using(answers::proofs::Laws::list_laws))]
+#[inline(always)]
 pub fn check_entry<L: Listed>(e: &Enclave, table: u8, index: u32, entry: L) -> Result<(), Refusal>
     ensures { let m = image_of e.now in result ≡ first (entry_checks m.rows m.reactions (L.own m.rows) L.level table index entry) }
 {
@@ -114,6 +117,7 @@ pub fn check_entry<L: Listed>(e: &Enclave, table: u8, index: u32, entry: L) -> R
 }
 
 // Entry k of the range of a table that begins at `start`, whose reaction and level are at hand, is above the entry before it, if there is one.
+#[inline(always)]
 fn check_after<L: Listed>(
     e: &Enclave,
     table: u8,
@@ -134,6 +138,7 @@ fn check_after<L: Listed>(
 
 // Entry k of the range of a table that begins at `start`: by itself, and after the entry before it.
 #[tactic(auto, using(answers::proofs::Laws::list_laws), unfolding(crate::specs::Lists::listed_checks))]
+#[inline(always)]
 pub fn check_listed<L: Listed>(e: &Enclave, table: u8, start: u32, k: u32) -> Result<(), Refusal>
     requires { table < tables }
     ensures { let m = image_of e.now
@@ -147,6 +152,7 @@ pub fn check_listed<L: Listed>(e: &Enclave, table: u8, start: u32, k: u32) -> Re
 
 // The entries of a range of a table.
 #[tactic(auto, using(answers::proofs::Loops::run_laws), unfolding(crate::specs::Lists::range_of_checks))]
+#[inline(always)]
 pub fn validate_levels<L: Listed>(e: &Enclave, table: u8, range: SliceRange) -> Result<(), Refusal>
     requires { table < tables }
     ensures { let m = image_of e.now

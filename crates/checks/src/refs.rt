@@ -26,6 +26,7 @@ impl<K: Key> Found<K> {
 }
 
 // The key that a row refers to in a field: its type says in which table its row must be.
+#[inline(always)]
 pub fn check_ref<K: Key>(starts: &TableStarts, at: RowField, key: K) -> Result<Found<K>, Refusal>
     ensures { result ≡ looked_up starts.now.firsts at K.Row.TABLE key (K.number key) }
 {
@@ -46,6 +47,7 @@ pub fn check_ref<K: Key>(starts: &TableStarts, at: RowField, key: K) -> Result<F
 }
 
 // The key's row is there.
+#[inline(always)]
 pub fn check_exists<K: Key>(starts: &TableStarts, at: RowField, key: K) -> Result<(), Refusal>
     ensures { let rows = rows_of starts.now.firsts in result ≡ first (ref_to rows at.table at.index at.field K.Row.TABLE (K.number key) ∷ []) }
 {
@@ -55,6 +57,7 @@ pub fn check_exists<K: Key>(starts: &TableStarts, at: RowField, key: K) -> Resul
 
 // A span against the table of R's rows and the end of the row before.
 #[tactic(auto, unfolding(answers::specs::Checks::first, crate::specs::Refs::span_checks))]
+#[inline(always)]
 pub fn check_enclave_span<R: Row>(
     starts: &TableStarts,
     at: RowField,
@@ -85,6 +88,7 @@ pub fn check_enclave_span<R: Row>(
 }
 
 // A range against the table of R's rows and the end of the row before.
+#[inline(always)]
 pub fn check_enclave_range<R: Row>(
     starts: &TableStarts,
     at: RowField,

@@ -47,6 +47,7 @@ fn check_deadline(e: &Enclave, i: u32) -> Result<(), Refusal>
 
 // Every deadline.
 #[tactic(auto, using(answers::proofs::Loops::run_laws))]
+#[inline(always)]
 pub fn check_deadlines(e: &Enclave) -> Result<(), Refusal>
     ensures { let m = image_of e.now in result ≡ first (run (deadline_checks m) 0 (m.rows 25)) }
 {

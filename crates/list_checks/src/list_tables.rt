@@ -215,6 +215,7 @@ fn check_modes_of_reaction(e: &Enclave, key: ReactionIndex) -> Result<(), Refusa
 }
 
 // The enabled modes of every reaction.
+#[inline(always)]
 pub fn check_modes_of_reactions(e: &Enclave) -> Result<(), Refusal>
     ensures { let m = image_of e.now in result ≡ first (run (enabled_modes_checks m) 0 (m.rows 5)) }
 {

@@ -95,6 +95,7 @@ fn check_route(
 
 // Every route. Row 0, which is compared with none, stands for the row before itself.
 #[tactic(auto, using(answers::proofs::Loops::run_laws), unfolding(crate::specs::Routes::route_checks))]
+#[inline(always)]
 pub fn check_routes(e: &Enclave) -> Result<(), Refusal>
     ensures { let m = image_of e.now in result ≡ first (run (route_checks m) 0 (m.rows 23)) }
 {
@@ -139,6 +140,7 @@ fn check_binding_id(
 
 // Every required binding. Row 0, which is compared with none, stands for the row before itself.
 #[tactic(auto, using(answers::proofs::Loops::run_laws), unfolding(crate::specs::Routes::binding_id_checks))]
+#[inline(always)]
 pub fn check_binding_ids(e: &Enclave) -> Result<(), Refusal>
     ensures { let m = image_of e.now in result ≡ first (run (binding_id_checks m) 0 (m.rows 24)) }
 {
