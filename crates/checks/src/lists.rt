@@ -1,7 +1,7 @@
 // Lists of reactions by level, whatever else their entries hold: levels alone, or lifecycle reactions. A table stands as a number beside the type of what its
 // entries hold, as in the definitions: entries of one type are in several tables, and a row type would say both, to be taken apart again in each.
 ghost use Rattle.std.specs.Prelude.{ℕ, ◌≡◌, [], ◌∷◌, ◌+◌, ◌-◌, ◌<◌, List};
-ghost use Rattle.answers.specs.Checks.{Check, first};
+ghost use Rattle.answers.specs.Checks.{Check, first, answer_of};
 ghost use Rattle.schema.specs.Tables.{start_of, rows_of, tables};
 ghost use Rattle.schema.specs.declared.entries.LevelReactionImage.{LevelReactionImage};
 ghost use Rattle.checks.specs.Image.{image_of, stored_at};
@@ -116,42 +116,48 @@ pub fn check_entry<L: Listed>(e: &Enclave, table: u8, index: u32, entry: L) -> R
     validate_level_ref(e, table, index, entry.level())
 }
 
-// Entry k of the range of a table that begins at `start`, whose reaction and level are at hand, is above the entry before it, if there is one.
+// Entry k of the range of a table that begins at `start` is above the entry before it, if there is one, by their reactions and levels.
 #[inline(always)]
-fn check_after<L: Listed>(
-    e: &Enclave,
+fn check_after(
     table: u8,
     start: u32,
     k: u32,
     level: LevelReactionImage,
+    before: LevelReactionImage,
 ) -> Result<(), Refusal>
-    requires { table < tables }
-    ensures { let before = L.level (L.at e.now.pack.bytes.now (start_of e.now.starts.now.firsts table + (start + (k - 1))))
-        in result ≡ first (after_first k (level_order_checks table (entry_index start k) level before)) }
+    ensures { result ≡ first (after_first k (level_order_checks table (entry_index start k) level before)) }
 {
     if k == 0 {
         return Ok(());
     }
-    let before = L::at(e.pack, e.record(table, start as usize + (k - 1) as usize));
-    check_order(table, entry_index(start, k), level, before.level())
+    check_order(table, entry_index(start, k), level, before)
 }
 
-// Entry k of the range of a table that begins at `start`: by itself, and after the entry before it.
-#[tactic(auto, using(answers::proofs::Laws::list_laws), unfolding(crate::specs::Lists::listed_checks))]
+// Entry k of the range of a table that begins at `start`: by itself, and after the entry before it, whose reaction and level are at hand.
+#[tactic(auto, using(answers::proofs::Laws::list_laws, answers::proofs::Laws::answer_laws), unfolding(crate::specs::Lists::listed_checks))]
 #[inline(always)]
-pub fn check_listed<L: Listed>(e: &Enclave, table: u8, start: u32, k: u32) -> Result<(), Refusal>
-    requires { table < tables }
+pub fn check_listed<L: Listed>(
+    e: &Enclave,
+    table: u8,
+    start: u32,
+    k: u32,
+    before: LevelReactionImage,
+) -> Result<LevelReactionImage, Refusal>
+    requires known { table < tables }
+    requires before { before ≡ L.level (L.at e.now.pack.bytes.now (start_of e.now.starts.now.firsts table + (start + (k - 1)))) }
     ensures { let m = image_of e.now
         in let entries = stored_at L.at e.now.pack.bytes.now e.now.starts.now.firsts
-        in result ≡ first (listed_checks m.rows m.reactions (L.own m.rows) L.level entries table start k) }
+        in let entry = L.level (entries table (start + k))
+        in result ≡ answer_of (first (listed_checks m.rows m.reactions (L.own m.rows) L.level entries table start k)) entry }
 {
     let entry = L::at(e.pack, e.record(table, start as usize + k as usize));
     check_entry(e, table, entry_index(start, k), entry)?;
-    check_after::<L>(e, table, start, k, entry.level())
+    check_after(table, start, k, entry.level(), before)?;
+    Ok(entry.level())
 }
 
 // The entries of a range of a table.
-#[tactic(auto, using(answers::proofs::Loops::run_laws), unfolding(crate::specs::Lists::range_of_checks))]
+#[tactic(auto, using(answers::proofs::Loops::run_laws, answers::proofs::Laws::answer_laws), unfolding(crate::specs::Lists::range_of_checks))]
 #[inline(always)]
 pub fn validate_levels<L: Listed>(e: &Enclave, table: u8, range: SliceRange) -> Result<(), Refusal>
     requires { table < tables }
@@ -159,8 +165,9 @@ pub fn validate_levels<L: Listed>(e: &Enclave, table: u8, range: SliceRange) -> 
         in let entries = stored_at L.at e.now.pack.bytes.now e.now.starts.now.firsts
         in result ≡ first (range_of_checks m.rows m.reactions (L.own m.rows) L.level entries table range.start range.len) }
 {
+    let mut before = L::at(e.pack, e.record(table, range.start as usize)).level();
     for k in 0..range.len {
-        check_listed::<L>(e, table, range.start, k)?;
+        before = check_listed::<L>(e, table, range.start, k, before)?;
     }
     Ok(())
 }

@@ -10,7 +10,7 @@ ghost use Rattle.list_checks.specs.ListTables.{trigger_checks, action_trigger_ch
 ghost use Rattle.schema.specs.Keys.{known_3, known_4};
 
 use answers::Refusal;
-use checks::lists::{Listed, check_entry, check_listed, validate_levels};
+use checks::lists::{Listed, check_entry, validate_levels};
 use range::SliceRange;
 use schema::entries::{
     LevelReactionImage, LifecycleReactionImage, ReactionTrigger, ScopeResetReaction,
@@ -141,12 +141,15 @@ pub fn check_lifecycle_entries<R: Row>(e: &Enclave) -> Result<(), Refusal>
     check_listed_entries::<LifecycleReactionImage>(e, R::TABLE)
 }
 
-// The shutdown reactions: one list over the whole table, entry by entry, as the pass has it; `validate_levels` has a row's range for its definition.
+// The shutdown reactions: one list over the whole table.
+#[tactic(auto, unfolding(checks::specs::Lists::range_of_checks))]
 pub fn check_shutdown_reactions(e: &Enclave) -> Result<(), Refusal>
     ensures { let m = image_of e.now in result ≡ first (run (shutdown_reaction_checks m) 0 (m.rows 21)) }
 {
-    for i in 0..e.rows(ShutdownReaction::TABLE) {
-        check_listed::<LifecycleReactionImage>(e, ShutdownReaction::TABLE, 0, i)?;
-    }
-    Ok(())
+    let table = ShutdownReaction::TABLE;
+    let whole = SliceRange {
+        start: 0,
+        len: e.rows(table),
+    };
+    validate_levels::<LifecycleReactionImage>(e, table, whole)
 }
