@@ -86,7 +86,7 @@ pub fn validate_level_ref(
         field,
     };
     let reaction = check_ref(e.starts, at(Field::Reaction), entry.reaction)?;
-    if reaction.row(e.pack).dependency_level != entry.level {
+    if reaction.row(e).dependency_level != entry.level {
         return Err(Refusal::OwnershipMismatch {
             at: at(Field::DependencyLevel),
         });

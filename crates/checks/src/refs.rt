@@ -1,12 +1,13 @@
 // References, ranges and spans.
-ghost use Rattle.std.specs.Prelude.{◌≡◌, [], ◌∷◌, ◌<◌};
+ghost use Rattle.std.specs.Prelude.{◌≡◌, [], ◌∷◌, ◌<◌, IfOk};
 ghost use Rattle.answers.specs.Checks.{first};
-ghost use Rattle.schema.specs.Tables.{rows_of, tables};
+ghost use Rattle.schema.specs.Tables.{start_of, rows_of, tables};
 ghost use Rattle.checks.specs.Refs.{ref_to, looked_up, span_checks, range_checks};
 
 use answers::{Refusal, RowField};
 use range::{IndexSpan, SliceRange};
-use schema::lent::{Pack, TableStarts};
+use schema::lent::{Enclave, TableStarts};
+use schema::record::Record;
 use schema::row::{Key, Row, Stored};
 
 // A key whose table has its row, with the row's record number.
@@ -17,18 +18,24 @@ pub struct Found<K> {
 }
 
 impl<K: Key> Found<K> {
-    // The row, in the pack that was looked into.
-    pub fn row(self, pack: Pack) -> K::Row
-        ensures { result ≡ K.Row.at pack.entry.bytes.now self.record_number }
+    // The row, in the enclave that was looked into.
+    pub fn row(self, e: &Enclave) -> K::Row
+        requires { self.record_number < start_of e.now.starts.now.firsts tables }
+        ensures { result ≡ K.Row.at e.now.pack.bytes.now self.record_number }
     {
-        K::Row::at(pack, self.record_number)
+        K::Row::of(Record {
+            bytes: e.pack.bytes,
+            number: self.record_number,
+        })
     }
 }
 
 // The key that a row refers to in a field: its type says in which table its row must be.
+#[tactic(auto, using(schema::proofs::Tables::row_inside))]
 #[inline(always)]
 pub fn check_ref<K: Key>(starts: &TableStarts, at: RowField, key: K) -> Result<Found<K>, Refusal>
-    ensures { result ≡ looked_up starts.now.firsts at K.Row.TABLE key (K.number key) }
+    ensures inside { IfOk result (λ found. found.record_number < start_of starts.now.firsts tables) }
+    ensures answer { result ≡ looked_up starts.now.firsts at K.Row.TABLE key (K.number key) }
 {
     let (target, referenced) = (K::Row::TABLE, key.number());
     let rows = starts.rows(target);

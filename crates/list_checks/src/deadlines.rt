@@ -1,5 +1,5 @@
 // The checks of deadlines: each for a reaction that is there, in order, and not zero.
-ghost use Rattle.std.specs.Prelude.{◌≡◌, ◌-◌};
+ghost use Rattle.std.specs.Prelude.{◌≡◌, ◌-◌, ◌<◌};
 ghost use Rattle.answers.specs.Checks.{first, run};
 ghost use Rattle.checks.specs.Image.{image_of};
 ghost use Rattle.checks.specs.Lists.{after_first};
@@ -17,21 +17,23 @@ use schema::rows::DeadlineImage;
 // The reaction of row i is above the one of the row before, if there is one.
 #[tactic(auto, unfolding(answers::specs::Checks::first, crate::specs::ListTables::index_order_checks))]
 fn check_reaction_order(e: &Enclave, i: u32, reaction: ReactionIndex) -> Result<(), Refusal>
+    requires { let m = image_of e.now in i < m.rows 25 }
     ensures { let m = image_of e.now in result ≡ first (after_first i (index_order_checks 25 i reaction.0 (m.deadlines (i - 1)).reaction)) }
 {
     if i == 0 {
         return Ok(());
     }
-    let before = e.row_at::<DeadlineImage>((i - 1) as usize);
+    let before = e.row_within::<DeadlineImage>(i - 1);
     check_order(DeadlineImage::TABLE, i, reaction, before.reaction)
 }
 
 // Row i of the deadlines.
 #[tactic(auto, using(answers::proofs::Laws::list_laws), unfolding(answers::specs::Checks::first, crate::specs::Deadlines::deadline_checks))]
 fn check_deadline(e: &Enclave, i: u32) -> Result<(), Refusal>
+    requires { let m = image_of e.now in i < m.rows 25 }
     ensures { result ≡ first (deadline_checks (image_of e.now) i) }
 {
-    let deadline = e.row_at::<DeadlineImage>(i as usize);
+    let deadline = e.row_within::<DeadlineImage>(i);
     let at = RowField {
         table: DeadlineImage::TABLE,
         index: i,

@@ -59,7 +59,7 @@ fn check_triggers<R: Triggering>(e: &Enclave) -> Result<(), Refusal>
         in result ≡ first (run (trigger_checks (λ i. R.triggers (row i)) m) 0 (m.rows R.TABLE)) }
 {
     for i in 0..e.rows(R::TABLE) {
-        let triggers = e.row_at::<R>(i as usize).triggers();
+        let triggers = e.row_within::<R>(i).triggers();
         validate_levels::<LevelReactionImage>(e, ReactionTrigger::TABLE, triggers)?;
     }
     Ok(())
@@ -118,7 +118,7 @@ fn check_listed_entries<L: Listed>(e: &Enclave, table: u8) -> Result<(), Refusal
         in result ≡ first (run (listed_entry_checks m.rows m.reactions (L.own m.rows) L.level entries table) 0 (m.rows table)) }
 {
     for i in 0..e.rows(table) {
-        let entry = L::at(e.pack, e.record(table, i as usize));
+        let entry = L::of(e.record_within(table, i));
         check_entry(e, table, i, entry)?;
     }
     Ok(())

@@ -124,7 +124,7 @@ fn check_named<N: Naming>(e: &Enclave, table: u8) -> Result<(), Refusal>
         in result ≡ first (run (named_checks table N.field N.Named.Row.TABLE named m) 0 (m.rows table)) }
 {
     for i in 0..e.rows(table) {
-        let entry = N::at(e.pack, e.record(table, i as usize));
+        let entry = N::of(e.record_within(table, i));
         let at = RowField {
             table,
             index: i,
@@ -193,7 +193,7 @@ fn check_enabled_mode(
         field: Field::Mode,
     };
     let mode = check_ref(e.starts, at, entry.holds)?;
-    if mode.row(e.pack).reactor == reactor {
+    if mode.row(e).reactor == reactor {
         return Ok(());
     }
     Err(Refusal::OwnershipMismatch {
@@ -204,9 +204,10 @@ fn check_enabled_mode(
 // The enabled modes of a reaction.
 #[tactic(auto, using(answers::proofs::Loops::run_laws), unfolding(crate::specs::ListTables::enabled_modes_checks))]
 fn check_modes_of_reaction(e: &Enclave, key: ReactionIndex) -> Result<(), Refusal>
+    requires { let m = image_of e.now in key.0 < m.rows 5 }
     ensures { result ≡ first (enabled_modes_checks (image_of e.now) key.0) }
 {
-    let reaction = e.row(key);
+    let reaction = e.row_within::<ReactionImage>(key.0);
     let SliceRange { start, len } = reaction.enabled_modes;
     for k in 0..len {
         check_enabled_mode(e, key, reaction.reactor, start, k)?;

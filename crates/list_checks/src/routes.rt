@@ -105,7 +105,7 @@ pub fn check_routes(e: &Enclave) -> Result<(), Refusal>
         direction: row.direction,
     };
     for i in 0..e.rows(RouteImage::TABLE) {
-        let route = e.row_at::<RouteImage>(i as usize);
+        let route = e.row_within::<RouteImage>(i);
         let text = e.texts.identity_text(route.boundary);
         check_route(e.starts, i, route, text, before)?;
         before = Before {
@@ -146,7 +146,7 @@ pub fn check_binding_ids(e: &Enclave) -> Result<(), Refusal>
 {
     let mut previous = e.texts.identity_text(e.row(BindingSlotIndex::new(0)).id);
     for i in 0..e.rows(RequiredBindingImage::TABLE) {
-        let id = e.row(BindingSlotIndex::new(i)).id;
+        let id = e.row_within::<RequiredBindingImage>(i).id;
         let text = e.texts.identity_text(id);
         check_binding_id(i, id, text, previous)?;
         previous = text;

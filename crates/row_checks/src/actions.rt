@@ -58,7 +58,7 @@ pub fn check_actions(e: &Enclave) -> Result<(), Refusal>
 {
     let mut previous_end = 0;
     for i in 0..e.rows(ActionImage::TABLE) {
-        let row = e.row(ActionIndex::new(i));
+        let row = e.row_within::<ActionImage>(i);
         check_action_row(e, ActionIndex::new(i), row, previous_end)?;
         previous_end = row.triggers.saturating_end();
     }

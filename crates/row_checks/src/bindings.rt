@@ -21,7 +21,7 @@ pub fn check_binding(
     ensures { let m = image_of e.now in result ≡ first (binding_checks m.rows m.bindings at.table at.index at.field kind key.0) }
 {
     let binding = check_ref(e.starts, at, key)?;
-    if binding.row(e.pack).kind != kind {
+    if binding.row(e).kind != kind {
         return Err(Refusal::BindingKindMismatch { at });
     }
     Ok(())

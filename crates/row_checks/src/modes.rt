@@ -42,7 +42,7 @@ fn check_mode_row(e: &Enclave, key: ModeIndex, row: ModeImage) -> Result<(), Ref
 {
     let reactor = check_ref(e.starts, RowField::of(key, Field::Reactor), row.reactor)?;
     let scope = check_ref(e.starts, RowField::of(key, Field::Scope), row.scope)?;
-    check_mode_owner(key, row, reactor.row(e.pack), scope.row(e.pack))
+    check_mode_owner(key, row, reactor.row(e), scope.row(e))
 }
 
 #[tactic(auto, using(answers::proofs::Loops::run_laws), unfolding(crate::specs::Modes::mode_checks))]
@@ -50,7 +50,7 @@ pub fn check_modes(e: &Enclave) -> Result<(), Refusal>
     ensures { let m = image_of e.now in result ≡ first (run (mode_checks m) 0 (m.rows 6)) }
 {
     for i in 0..e.rows(ModeImage::TABLE) {
-        check_mode_row(e, ModeIndex::new(i), e.row(ModeIndex::new(i)))?;
+        check_mode_row(e, ModeIndex::new(i), e.row_within(i))?;
     }
     Ok(())
 }

@@ -41,7 +41,7 @@ pub fn check_ports(e: &Enclave) -> Result<(), Refusal>
 {
     let mut previous_end = 0;
     for i in 0..e.rows(PortImage::TABLE) {
-        let row = e.row(PortIndex::new(i));
+        let row = e.row_within::<PortImage>(i);
         check_port_row(e, PortIndex::new(i), row, previous_end)?;
         previous_end = row.triggers.saturating_end();
     }

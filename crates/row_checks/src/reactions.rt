@@ -46,7 +46,7 @@ fn check_reaction_owner(e: &Enclave, key: ReactionIndex, row: ReactionImage) -> 
     check_exists(e.starts, at(Field::Reactor), row.reactor)?;
     let scope = check_ref(e.starts, at(Field::Scope), row.scope)?;
     check_binding(e, at(Field::Binding), BindingKind::Reaction, row.binding)?;
-    if scope.row(e.pack).reactor == row.reactor {
+    if scope.row(e).reactor == row.reactor {
         return Ok(());
     }
     Err(Refusal::OwnershipMismatch {
@@ -69,7 +69,7 @@ fn check_effect(
     };
     let at = RowField::of(key, Field::ModeEffectTarget);
     let target = check_ref(e.starts, at, effect.target)?;
-    if target.row(e.pack).reactor == reactor {
+    if target.row(e).reactor == reactor {
         return Ok(());
     }
     Err(Refusal::OwnershipMismatch {
@@ -125,7 +125,7 @@ pub fn check_reactions(e: &Enclave) -> Result<(), Refusal>
 {
     let mut previous = ReactionEnds::default();
     for i in 0..e.rows(ReactionImage::TABLE) {
-        let row = e.row(ReactionIndex::new(i));
+        let row = e.row_within::<ReactionImage>(i);
         check_reaction_row(e, ReactionIndex::new(i), row, previous)?;
         previous = ends_of(row);
     }

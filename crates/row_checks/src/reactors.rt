@@ -35,7 +35,7 @@ fn check_root_scope(e: &Enclave, key: ReactorIndex, root: ScopeIndex) -> Result<
     ensures { let m = image_of e.now in result ≡ first (root_scope_checks m.rows m.scopes key.0 root.0) }
 {
     let at = RowField::of(key, Field::RootScope);
-    let scope = check_ref(e.starts, at, root)?.row(e.pack);
+    let scope = check_ref(e.starts, at, root)?.row(e);
     if scope.reactor == key && scope.mode.is_none() {
         return Ok(());
     }
@@ -102,7 +102,7 @@ pub fn check_reactors(e: &Enclave) -> Result<(), Refusal>
 {
     let mut previous_end = 0;
     for i in 0..e.rows(ReactorImage::TABLE) {
-        let row = e.row(ReactorIndex::new(i));
+        let row = e.row_within::<ReactorImage>(i);
         check_reactor_row(e, ReactorIndex::new(i), row, previous_end)?;
         previous_end = row.modes.0.saturating_end();
     }

@@ -82,6 +82,27 @@ impl<'a> Enclave<'a> {
         self.starts.record(table, i)
     }
 
+    // The record of row i of a table that has it.
+    pub fn record_within(&self, table: u8, i: u32) -> Record<'a>
+        requires known { table < tables }
+        requires within { i < rows_of self.now.starts.now.firsts table }
+        ensures { (result.bytes ≡ self.now.pack.bytes) × (result.number ≡ start_of self.now.starts.now.firsts table + i) }
+    {
+        Record {
+            bytes: self.pack.bytes,
+            number: self.record(table, i as usize),
+        }
+    }
+
+    // Row i of a table that has it.
+    pub fn row_within<R: Row>(&self, i: u32) -> R
+        requires known { R.TABLE < tables }
+        requires within { i < rows_of self.now.starts.now.firsts R.TABLE }
+        ensures { result ≡ R.at self.now.pack.bytes.now (start_of self.now.starts.now.firsts R.TABLE + i) }
+    {
+        R::of(self.record_within(R::TABLE, i))
+    }
+
     // Row i of a table; the empty row where the pack ends before it.
     pub fn row_at<R: Row>(&self, i: usize) -> R
         requires known { R.TABLE < tables }

@@ -40,7 +40,7 @@ pub fn check_scope_mode(
         return Ok(());
     };
     let at = RowField::of(key, Field::Mode);
-    let owner = check_ref(e.starts, at, mode)?.row(e.pack);
+    let owner = check_ref(e.starts, at, mode)?.row(e);
     if owner.scope == key && owner.reactor == reactor {
         return Ok(());
     }

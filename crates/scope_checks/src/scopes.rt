@@ -18,7 +18,7 @@ pub fn check_scopes(e: &Enclave) -> Result<(), Refusal>
 {
     let mut ends = ScopeEnds::default();
     for i in 0..e.rows(ScopeImage::TABLE) {
-        let row = e.row(ScopeIndex::new(i));
+        let row = e.row_within::<ScopeImage>(i);
         check_scope_row(e, ScopeIndex::new(i), row, &mut ends)?;
     }
     Ok(())
