@@ -1,14 +1,16 @@
 -- Where a table begins: the record that reaches it first. Assumes nothing.
 use Prim.Native.Nat.{ℕ, zero, suc, ◌+◌, ◌-◌, ◌%◌, ◌<◌, ◌≤◌}
+use Rattle.std.specs.Prelude.{min}
 use mathlib.Core.Bool.{Bool, true, false, not, ◌||◌, true≢false}
-use mathlib.Core.Path.{◌≡◌, refl, ◌∙◌, sym}
-use mathlib.Core.List.{List, [], ◌∷◌}
+use mathlib.Core.Path.{◌≡◌, refl, ◌∙◌, sym, ap}
+use mathlib.Core.List.{List, [], ◌∷◌, ◌++◌}
 use native.Mathlib.Numerals.{add-one}
 use native.Mathlib.Omega.{arith}
 use lib.Dec.{ltb, leb}
-use lib.ListN.{length, get_or, take, set, length-set, length-append, get_or-append}
-use lib.Seq.{get_or_at, take-suc-set, take_all}
-use borrow.Author.Tests.{ltb-true, ltb-false, leb-true, leb-false, lt-leb}
+use lib.ListN.{length, get_or, take, drop, replicate, length-append, get_or-append}
+use lib.Seq.{get_or_at, take_all}
+use Rattle.std.proofs.lemmas.List.{append-nil, append_assoc, take_at, length-take-le, length-drop, length-replicate, replicate_more}
+use borrow.Author.Tests.{ltb-true, ltb-false, leb-true, leb-false, le-leb, lt-leb}
 use Rattle.identity.proofs.Tests.{cases}
 use Rattle.schema.specs.Bytes.{byte_of}
 use Rattle.schema.specs.Tables.{tables, IsRising, EndsInside}
@@ -104,6 +106,18 @@ module _ (p : List ℕ) where
       (λ r. rw r)
       (λ r. rw r (search_on t u f (a + 1) l ∙ sym (search_next u a (not-later t u a l r))))
 
+  -- the search ends at a record that reaches the table
+  reaches_found : (t f a : ℕ) → records_of p ≤ a + f → reaches p t (first_reaching p t a f) ≡ true
+  unfolding first_reaching
+  reaches_found t zero a h =
+      cases (reaches p t a) (λ r. r) (λ r. let g = (not-reached t a r).0 in absurd (omega arith))
+  reaches_found t (suc f) a h =
+      cases (reaches p t a) (λ r. rw r r) (λ r. rw r (reaches_found t f (a + 1) (omega arith)))
+
+  -- any record reaches the first table
+  reaches_zero : (a : ℕ) → reaches p 0 a ≡ true
+  reaches_zero a = cases (reaches p 0 a) (λ r. r) (λ r. let g = (not-reached 0 a r).1 in absurd (omega arith))
+
 pub ruleset search_laws = (search_next, search_found, search_inside, search_small)
 
 -- the list of starts
@@ -143,33 +157,90 @@ module _ (p : List ℕ) (rows : ℕ) where
       let m : t ≤ tables = omega arith in
       rw (starts-at t m, starts-at u h) (first-rises p t u (records_of p) rows l)
 
--- the loop over the tables: s holds the starts of those below t, and the others are searched for from record k on
-pub record Filled (p : List ℕ) (rows : ℕ) (s : List ℕ) (t k : ℕ) : Type 0 where
+-- tables that begin at one record: their starts are that record's number, once for each
+same_starts : (p : List ℕ) (rows t k n m : ℕ) → m ≡ t + n → ((u : ℕ) → t ≤ u → u < m → table_start p rows u ≡ k) → starts_below p rows m ≡ starts_below p rows t ++ replicate n k
+unfolding starts_below
+same_starts p rows t k zero m e h = let g : m ≡ t = omega arith in rw g (sym (append-nil (starts_below p rows t)))
+same_starts p rows t k (suc n) m e h =
+    let g : m ≡ suc (t + n) = omega arith in
+    let before = same_starts p rows t k n (t + n) refl (λ u l b. h u l (omega arith)) in
+    let last = h (t + n) (omega arith) (omega arith) in
+    rw (g, before, last)
+    (append_assoc (starts_below p rows t) (replicate n k) (k ∷ []) ∙ ap (λ z. starts_below p rows t ++ z) (replicate_more n k ∙ ap (λ z. replicate z k) (add-one n)))
+
+-- s with record k noted as the start of the tables from t on, up to table e
+abbrev pub noted : List ℕ → ℕ → ℕ → ℕ → List ℕ
+noted s t e k = take t s ++ (replicate (e - t) k ++ drop e s)
+
+-- the walk over the rows: s holds the starts of the tables below t, record k is the first that reaches table t, and the others are searched for from there
+pub record Noted (p : List ℕ) (rows : ℕ) (s : List ℕ) (t k : ℕ) : Type 0 where
   pub sized : length s ≡ suc tables
+  pub inside : t ≤ suc tables
   pub done : take t s ≡ starts_below p rows t
-  pub ahead : (u : ℕ) → t ≤ u → first_reaching p u k (records_of p) ≡ table_start p rows u
+  pub ahead : (u : ℕ) → t ≤ u → u ≤ tables → first_reaching p u k (records_of p) ≡ table_start p rows u
+  pub reached : reaches p t k ≡ true
 
-pub filled_none : (p : List ℕ) (rows : ℕ) (s : List ℕ) → length s ≡ suc tables → Filled p rows s 0 rows
+pub noted_none : (p : List ℕ) (rows : ℕ) (s : List ℕ) → length s ≡ suc tables → Noted p rows s 0 rows
 unfolding starts_below
-filled_none p rows s e = record { sized = e; done = refl; ahead = λ u l. refl }
+noted_none p rows s e =
+    record { sized = e; inside = omega arith; done = refl; ahead = λ u l g. refl; reached = reaches_zero p rows }
 
-pub filled_next : (p : List ℕ) (rows : ℕ) (s : List ℕ) (t k m : ℕ) → Filled p rows s t k → t < suc tables → m ≡ first_reaching p t k (records_of p) → Filled p rows (set s t m) (t + 1) m
-unfolding starts_below
-filled_next p rows s t k m f h e =
-    let z = f.sized in
-    let l : t < length s = omega arith in
-    record {
-      sized = simp length-set z;
-      done = rw (add-one, take-suc-set s t m l, f.done, e, f.ahead t (omega arith));
-      ahead = λ u g. rw e (search_on p t u (records_of p) k (omega arith)) ∙ f.ahead u (omega arith);
-    }
+noted_length : (s : List ℕ) (t e k : ℕ) → t ≤ e → e ≤ length s → length (noted s t e k) ≡ length s
+noted_length s t e k l g =
+    let a = length-take-le t s (omega arith) in
+    let b = length-replicate (e - t) k in
+    let c = length-drop e s in
+    let d = length-append (take t s) (replicate (e - t) k ++ drop e s) in
+    let f = length-append (replicate (e - t) k) (drop e s) in
+    omega arith
 
-pub filled_all : (p : List ℕ) (rows : ℕ) (s : List ℕ) (t k : ℕ) → Filled p rows s t k → suc tables ≤ t → t ≤ suc tables → s ≡ table_starts p rows
+noted_upto : (p : List ℕ) (rows : ℕ) (s : List ℕ) (t e k : ℕ) → Noted p rows s t k → t ≤ e → e ≤ suc tables → ((u : ℕ) → t ≤ u → u < e → reaches p u k ≡ true) → take e (noted s t e k) ≡ starts_below p rows e
+noted_upto p rows s t e k n l g h =
+    let z = n.sized in
+    let a = length-take-le t s (omega arith) in
+    let b = length-replicate (e - t) k in
+    let d = length-append (take t s) (replicate (e - t) k) in
+    let whole : e ≡ t + (e - t) = omega arith in
+    let same = same_starts p rows t k (e - t) e whole (λ u m i. sym (n.ahead u m (omega arith)) ∙ search_found p u k (h u m i)) in
+    ap (take e) (sym (append_assoc (take t s) (replicate (e - t) k) (drop e s))) ∙ take_at (take t s ++ replicate (e - t) k) (drop e s) e (omega arith)
+    ∙ ap (λ x. x ++ replicate (e - t) k) (n.done) ∙ sym same
+
+-- a row of a table
+module _ (p : List ℕ) (k table : ℕ) (row : (u : ℕ) → reaches p u k ≡ leb u table) where
+  pub row_inside : k < records_of p
+  row_inside = (not-reached p (suc table) k (row (suc table) ∙ lt-leb (suc table) table (omega arith))).0
+
+  pub row_small : k < 65536
+  row_small = let g = row_inside in let h = records_few p in omega arith
+
+  pub row_order : (t : ℕ) → t ≤ suc tables → reaches p t k ≡ true → t ≤ min table tables + 1
+  row_order t l r = let g = leb-true t table (sym (row t) ∙ r) in omega arith
+
+  pub row_later : (e : ℕ) → records_of p - first_reaching p e (k + 1) (records_of p) < records_of p - k
+  row_later e = let g = first-from p e (records_of p) (k + 1) in let h = row_inside in omega arith
+
+  -- notes the starts that the row is
+  pub noted_next : (rows : ℕ) (s : List ℕ) (t e m : ℕ) → Noted p rows s t k → e ≡ min table tables + 1 → m ≡ first_reaching p e (k + 1) (records_of p) → Noted p rows (noted s t e k) e m
+  noted_next rows s t e m n h i =
+      let z = n.sized in
+      let l : t ≤ e = rw h (row_order t (n.inside) (n.reached)) in
+      let g : e ≤ suc tables = omega arith in
+      let past : (u : ℕ) → e ≤ u → u ≤ tables → reaches p u k ≡ false = λ u a b. row u ∙ lt-leb u table (omega arith) in
+      record {
+        sized = noted_length s t e k l (omega arith) ∙ z;
+        inside = g;
+        done = noted_upto p rows s t e k n l g (λ u a b. row u ∙ le-leb u table (omega arith));
+        ahead = λ u a b. rw i (search_on p e u (records_of p) (k + 1) a) ∙ sym (search_next p u k (past u a b)) ∙ n.ahead u (omega arith) b;
+        reached = rw i (reaches_found p e (records_of p) (k + 1) (omega arith));
+      }
+
+-- where the enclave ends, so do all its tables
+pub noted_all : (p : List ℕ) (rows : ℕ) (s : List ℕ) (t k : ℕ) → Noted p rows s t k → ((u : ℕ) → reaches p u k ≡ true) → noted s t (suc tables) k ≡ table_starts p rows
 unfolding table_starts
-filled_all p rows s t k f h l =
-    let z = f.sized in
-    let e : t ≡ suc tables = omega arith in
-    sym (take_all (suc tables) s (omega arith)) ∙ (rw e at f.done)
+noted_all p rows s t k n h =
+    let z = n.sized in
+    let l = noted_length s t (suc tables) k (n.inside) (omega arith) in
+    sym (take_all (suc tables) (noted s t (suc tables) k) (omega arith)) ∙ noted_upto p rows s t (suc tables) k n (n.inside) (omega arith) (λ u a b. h u)
 
 -- an enclave's tables rise, and end inside its pack
 pub starts_rising : (p : List ℕ) (rows : ℕ) (s : List ℕ) → s ≡ table_starts p rows → IsRising s
