@@ -9,7 +9,7 @@ use answers::Refusal;
 use identity::texts::Texts;
 use packing::PackKind;
 use packing::rules::checked_pack;
-use packing::starts::{enclave, table_starts};
+use packing::starts::{enclave, note_starts};
 use schema::lent::{Enclave, TableStarts};
 use scope_checks::links::check_parents;
 use scope_checks::scopes::check_scopes;
@@ -39,7 +39,7 @@ pub fn check_enclave_starts(
 {
     let texts = Texts { batch, house };
     let pack = checked_pack(PackKind::Enclave, pack, texts)?;
-    *starts = table_starts(pack.bytes, 1);
+    note_starts(pack.bytes, 1, starts);
     check_image(&enclave(pack, starts, texts))
 }
 

@@ -9,9 +9,10 @@ use answers::{IdKind, Refusal, StableId};
 use checks::identities::validate_id_order;
 use enclave::check::check_image;
 use identity::texts::Texts;
-use packing::starts::{enclave, table_starts};
+use packing::starts::{enclave, note_starts};
 use route_pairs::Federate;
 use schema::index::KEYS;
+use schema::lent::TableStarts;
 use schema::row::Stored;
 use schema::rows::EnclaveImage;
 
@@ -29,7 +30,8 @@ impl<'a> FederateEnclave<'a> {
         ensures { let t = texts.entry in result ≡ image_result (image_at self.entry.pack.bytes.now t.batch.now t.house.now self.entry.number) }
     {
         let own = enclave_pack_to(self.pack, self.number, self.end);
-        let starts = table_starts(own.bytes, 1);
+        let mut starts = TableStarts::none();
+        note_starts(own.bytes, 1, &mut starts);
         check_image(&enclave(own, &starts, texts))
     }
 

@@ -8,10 +8,10 @@ ghost use Rattle.night.specs.Enclaves.{reactors_checks, depth_checks, domain_che
 use answers::Refusal;
 use federate::records::{Enclaves, FederateEnclave, enclave_pack_to};
 use identity::texts::Texts;
-use packing::starts::{enclave, table_starts};
+use packing::starts::{enclave, note_starts};
 use route_pairs::Federate;
 use schema::index::{ScopeIndex, TimingDomain};
-use schema::lent::Enclave;
+use schema::lent::{Enclave, TableStarts};
 use schema::row::Row;
 use schema::rows::{ReactorImage, RouteImage, ScopeImage};
 use scope_checks::links::links_by;
@@ -95,7 +95,8 @@ fn check_own(own: FederateEnclave, texts: Texts) -> Result<(), Refusal>
     ensures { let t = texts.entry in result ≡ first (night_record_checks own.entry.pack.bytes.now t.batch.now t.house.now own.entry.number) }
 {
     let part = enclave_pack_to(own.pack, own.number, own.end);
-    let starts = table_starts(part.bytes, 1);
+    let mut starts = TableStarts::none();
+    note_starts(part.bytes, 1, &mut starts);
     check_enclave_at_night(&enclave(part, &starts, texts), own.place)
 }
 

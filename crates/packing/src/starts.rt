@@ -61,7 +61,7 @@ fn note(firsts: &mut [u32; TABLES + 1], t: usize, end: usize, k: u32)
 
 // Notes where each table begins, from row to row: a row that reaches table t begins all tables from there up to its own, and the next to look at is the first
 // that reaches a later one.
-fn note_starts(p: &[u8], rows: u32, firsts: &mut [u32; TABLES + 1])
+fn note_rows(p: &[u8], rows: u32, firsts: &mut [u32; TABLES + 1])
     ensures { firsts.new ≡ table_starts p.now rows }
 {
     let mut t = 0;
@@ -75,13 +75,20 @@ fn note_starts(p: &[u8], rows: u32, firsts: &mut [u32; TABLES + 1])
     note(firsts, t, TABLES + 1, k);
 }
 
-// The starts of the tables in the enclave whose rows start at record `rows`.
+// Notes the starts of the tables in the enclave whose rows start at record `rows`: where they are lent from, so that they are written once.
+pub fn note_starts(p: &[u8], rows: u32, starts: &mut TableStarts)
+    ensures { starts.new.firsts ≡ table_starts p.now rows }
+{
+    note_rows(p, rows, &mut starts.firsts);
+}
+
+// The starts by themselves.
 pub fn table_starts(p: &[u8], rows: u32) -> TableStarts
     ensures { result.firsts ≡ table_starts p.now rows }
 {
-    let mut firsts = [0u32; TABLES + 1];
-    note_starts(p, rows, &mut firsts);
-    TableStarts { firsts }
+    let mut starts = TableStarts::none();
+    note_starts(p, rows, &mut starts);
+    starts
 }
 
 // The enclave that a pack with a record holds.

@@ -2,7 +2,7 @@
 use Rattle.std.proofs.Common.{◌-◌}
 use Rattle.schema.specs.Records.{records_of}
 use Rattle.packing.proofs.TableStarts.{Noted}
-use Rattle.packing.proofs.starts.note_starts.Given as goal
+use Rattle.packing.proofs.starts.note_rows.Given as goal
 
 abbrev pub invariant-loop-table : goal.invariant-loop-table
 invariant-loop-table l = Noted l.p l.rows l.firsts l.t l.k
