@@ -8,6 +8,7 @@ mod files;
 mod image;
 mod picture;
 mod place;
+mod refusal_rows;
 mod show;
 
 use answer::Ended;

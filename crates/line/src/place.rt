@@ -11,50 +11,19 @@ use crate::place::boundary::boundary_fault;
 use crate::place::faults::{named_row, write_fault};
 use crate::place::line_faults::line_fault;
 use crate::place::packed::packing_fault;
-use crate::place::station::{
-    BINDINGS, DEADLINES, REACTIONS, REACTORS, ROUTES, SCOPES, Station, own_station,
-    refused_station, station_at,
-};
+use crate::place::station::{Station, own_station, refused_station, station_at};
+use crate::refusal_rows::{row_named, target_named};
 use crate::show::rows::RowText;
-use schema::row::Row;
-use schema::rows::EnclaveImage;
+use crate::show::words::RowName;
 use std::io;
 use std::io::Write;
 
-// The table of the identities of a kind.
-fn table_of_kind(kind: u64) -> u64 {
-    match kind {
-        5 => ROUTES,
-        6 => BINDINGS,
-        _ => u64::from(EnclaveImage::TABLE),
-    }
-}
-
-// The row that a refusal of a station names: its table and its number there.
-fn row_named(refusal: &[u64]) -> Option<(u64, u64)> {
+// The row before the one that is named, where the refusal comes of a comparison with that.
+fn row_before<'a>(station: &Station<'a>, named: RowName, refusal: &[u64]) -> Option<RowText<'a>> {
     match refusal {
-        [12..=17, table, index, ..] => Some((*table, *index)),
-        [18, scope] => Some((SCOPES, *scope)),
-        [19..=21, kind, index, ..] => Some((table_of_kind(*kind), *index)),
-        [22, reactor, ..] => Some((REACTORS, *reactor)),
-        [23..=25, table, index, ..] => Some((*table, *index)),
-        [29, _, route] => Some((ROUTES, *route)),
-        [30, _, scope] => Some((SCOPES, *scope)),
-        [32, reaction, _] => Some((REACTIONS, *reaction)),
-        [39, index] => Some((DEADLINES, *index)),
-        _ => None,
-    }
-}
-
-// The row before it, where the refusal comes of a comparison with that.
-fn row_before<'a>(
-    station: &Station<'a>,
-    table: u64,
-    index: u64,
-    refusal: &[u64],
-) -> Option<RowText<'a>> {
-    match refusal {
-        [14..=16, ..] | [20 | 21, 5 | 6, ..] => station.row(table, index.checked_sub(1)?),
+        [14..=16, ..] | [20 | 21, 5 | 6, ..] => {
+            station.row(named.table, named.index.checked_sub(1)?)
+        }
         _ => None,
     }
 }
@@ -64,8 +33,10 @@ fn other_row<'a>(station: &Station<'a>, row: RowText, refusal: &[u64]) -> Option
     match refusal {
         [17 | 24, _, _, field] => named_row(station, row, *field),
         [23, ..] => Some(station.own_row()),
-        [32, _, target] => station.row(REACTIONS, *target),
-        _ => None,
+        _ => {
+            let RowName { table, index } = target_named(refusal)?;
+            station.row(table, index)
+        }
     }
 }
 
@@ -78,11 +49,11 @@ fn write_row<W: Write>(out: &mut W, row: Option<RowText>) -> io::Result<()> {
 
 // The rows of a refusal of a station, the one that it names after the one before it.
 fn write_rows<W: Write>(out: &mut W, station: &Station, refusal: &[u64]) -> io::Result<()> {
-    let Some((table, index)) = row_named(refusal) else {
+    let Some(named) = row_named(refusal) else {
         return Ok(());
     };
-    write_row(out, row_before(station, table, index, refusal))?;
-    let Some(row) = station.row(table, index) else {
+    write_row(out, row_before(station, named, refusal))?;
+    let Some(row) = station.row(named.table, named.index) else {
         return Ok(());
     };
     writeln!(out, "{row}")?;

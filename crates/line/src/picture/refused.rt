@@ -1,13 +1,12 @@
 // Which rows of a station a refusal is about, by its numbers.
 use crate::picture::text::RowAt;
+use crate::refusal_rows::{row_named, target_named};
+use crate::show::words::RowName;
 use identity::IdentityPlace;
 use identity::texts::Texts;
 use range::{IndexSpan, SliceRange};
 use schema::row::Row;
-use schema::rows::{
-    DeadlineImage, EnclaveImage, ReactionImage, ReactorImage, RequiredBindingImage, RouteImage,
-    ScopeImage,
-};
+use schema::rows::EnclaveImage;
 use std::cmp::Ordering;
 use std::fmt;
 
@@ -24,6 +23,14 @@ const OWN: RowAt = RowAt {
     index: 0,
 };
 
+// A row that is named, where its numbers are such as rows have.
+fn row_at(named: RowName) -> Option<RowAt> {
+    Some(RowAt {
+        table: u8::try_from(named.table).ok()?,
+        index: u32::try_from(named.index).ok()?,
+    })
+}
+
 impl<'a> Refused<'a> {
     fn at(self, k: usize) -> Option<u64> {
         self.numbers.get(k).copied()
@@ -34,59 +41,22 @@ impl<'a> Refused<'a> {
         self.at(0).unwrap_or(0)
     }
 
-    // The row of a table whose place there is number k.
-    fn row_of(self, table: u8, k: usize) -> Option<RowAt> {
-        let index = u32::try_from(self.at(k)?).ok()?;
-        Some(RowAt { table, index })
-    }
-
-    // The row of an identity, by its kind and its place: the enclave's, a boundary's, a binding's.
-    fn identity_row(self) -> Option<RowAt> {
-        match self.at(1)? {
-            4 => Some(OWN),
-            5 => self.row_of(RouteImage::TABLE, 2),
-            6 => self.row_of(RequiredBindingImage::TABLE, 2),
-            _ => None,
-        }
-    }
-
-    // What the night refuses names its station: a physical route, a scope too deep, too many reactors.
-    fn night_row(self) -> Option<RowAt> {
-        if self.at(1)? != u64::from(self.station) {
-            return None;
-        }
-        match self.number() {
-            29 => self.row_of(RouteImage::TABLE, 2),
-            30 => self.row_of(ScopeImage::TABLE, 2),
-            _ => Some(OWN),
-        }
-    }
-
-    // The row that it names; none where it names no row, or one of another station. By the papers' numbers: 18 is a scope among its own parents, 19 to
-    // 21 are of identities, 22 of banks, 32 a level that does not rise, 39 a deadline of zero.
+    // The row that it names, where that is one of this station: what the night refuses names its station first, and too many reactors no row of it.
     pub(crate) fn row(self) -> Option<RowAt> {
-        match self.number() {
-            12..=17 | 23..=25 => self.row_of(u8::try_from(self.at(1)?).ok()?, 2),
-            18 => self.row_of(ScopeImage::TABLE, 1),
-            19..=21 => self.identity_row(),
-            22 => self.row_of(ReactorImage::TABLE, 1),
-            29..=31 => self.night_row(),
-            32 => self.row_of(ReactionImage::TABLE, 1),
-            39 => self.row_of(DeadlineImage::TABLE, 1),
-            _ => None,
+        match self.numbers {
+            [29..=31, station, ..] if *station != u64::from(self.station) => None,
+            [31, ..] => Some(OWN),
+            numbers => row_at(row_named(numbers)?),
         }
     }
 
-    // The second row that it names: the reaction whose level does not rise over the first one's.
-    fn other_row(self) -> Option<RowAt> {
-        match self.number() {
-            32 => self.row_of(ReactionImage::TABLE, 2),
-            _ => None,
-        }
+    // The reaction whose level does not rise over the first one's.
+    fn target(self) -> Option<RowAt> {
+        row_at(target_named(self.numbers)?)
     }
 
     pub(crate) fn marks(self, row: RowAt) -> bool {
-        self.row() == Some(row) || self.other_row() == Some(row)
+        self.row() == Some(row) || self.target() == Some(row)
     }
 
     // Whether the row is one of a table that lies in a range.

@@ -10,8 +10,7 @@ use schema::lent::{Pack, TABLES, TableStarts};
 use schema::record::Record;
 use schema::row::Row;
 use schema::rows::{
-    ActionImage, DeadlineImage, EnclaveImage, ModeImage, PortImage, ReactionImage, ReactorImage,
-    RequiredBindingImage, RouteImage, ScopeImage,
+    ActionImage, DeadlineImage, EnclaveImage, ModeImage, PortImage, ReactorImage, ScopeImage,
 };
 
 // Tables by their numbers, as refusals carry them.
@@ -21,18 +20,12 @@ pub(crate) const ACTIONS: u64 = ActionImage::TABLE as u64;
 
 pub(crate) const PORTS: u64 = PortImage::TABLE as u64;
 
-pub(crate) const REACTIONS: u64 = ReactionImage::TABLE as u64;
-
 pub(crate) const MODES: u64 = ModeImage::TABLE as u64;
 
 pub(crate) const SCOPES: u64 = ScopeImage::TABLE as u64;
 
 // Its type has the number as a parameter.
 pub(crate) const REACTION_MODES: u64 = 12;
-
-pub(crate) const ROUTES: u64 = RouteImage::TABLE as u64;
-
-pub(crate) const BINDINGS: u64 = RequiredBindingImage::TABLE as u64;
 
 pub(crate) const DEADLINES: u64 = DeadlineImage::TABLE as u64;
 
