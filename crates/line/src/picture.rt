@@ -13,10 +13,10 @@ mod refused;
 mod station;
 mod text;
 
-use crate::image::Image;
+use crate::image::{Image, station_in};
 use answers::Refusal;
 use boxes::{Boxes, draw_boxes};
-use federate::records::{Enclaves, enclave_pack_to};
+use federate::records::enclave_pack_to;
 use identity::texts::Texts;
 use legend::HEAD;
 use packing::PackKind;
@@ -37,16 +37,6 @@ fn kind_of(pack: &[u8]) -> PackKind {
         Some(FederateImage::TABLE) => PackKind::Federate,
         _ => PackKind::Enclave,
     }
-}
-
-// The pack of a station, by its place in the line.
-fn station_pack<'a>(pack: Pack<'a>, station: u32) -> Option<Pack<'a>> {
-    for enclave in Enclaves::of(pack) {
-        if enclave.place == station {
-            return Some(enclave_pack_to(enclave.pack, enclave.number, enclave.end));
-        }
-    }
-    None
 }
 
 // In the place of a picture, where the packing rules refuse the pack: nothing of it is read.
@@ -97,9 +87,10 @@ fn draw_packed<W: Write>(
     texts: Texts,
     refused: Refused,
 ) -> io::Result<bool> {
-    let Some(own) = station_pack(pack, refused.station) else {
+    let Some(found) = station_in(pack, refused.station) else {
         return Ok(false);
     };
+    let own = enclave_pack_to(found.pack, found.number, found.end);
     if own.bytes.is_empty() {
         return Ok(false);
     }

@@ -1,5 +1,5 @@
 // The stations of an image as the checks take them: which one a refusal is about, and its rows by table and number.
-use crate::image::{Image, Kind};
+use crate::image::{Image, Kind, station_in};
 use crate::show::rows::{RowText, StationText};
 use enclave::check::check_enclave;
 use federate::records::{Enclaves, FederateEnclave, enclave_pack_to};
@@ -134,14 +134,9 @@ fn refused_in_line<'a>(image: &Image<'a>, refusal: &[u64]) -> Option<Station<'a>
 
 // The station of a line by its place.
 fn station_in_line<'a>(image: &Image<'a>, place: u32) -> Option<Station<'a>> {
-    let pack = whole_pack(image.pack).ok()?;
-    for own in Enclaves::of(pack) {
-        if own.place == place {
-            let part = enclave_pack_to(own.pack, own.number, own.end);
-            return Station::of(*image, place, own.number, part);
-        }
-    }
-    None
+    let own = station_in(whole_pack(image.pack).ok()?, place)?;
+    let pack = enclave_pack_to(own.pack, own.number, own.end);
+    Station::of(*image, place, own.number, pack)
 }
 
 // The first station of an image that refuses with these numbers.
