@@ -82,7 +82,15 @@ pub(crate) fn draw_level<W: Write>(
     s.end_node(out, s.refused.marks(entry), look)
 }
 
-// An arrow to a port that a reaction writes, by what the write comes to.
+// What an arrow to a port that a reaction writes says, and its look: by what the write comes to.
+fn look_of(fate: Fate) -> (&'static str, &'static str) {
+    match fate {
+        Fate::Triggers | Fate::Sent => ("", WRITES),
+        Fate::OnlyRead => ("only read", ONLY_READ),
+        Fate::NeverScheduled => ("never scheduled", NEVER),
+    }
+}
+
 fn draw_write<W: Write>(
     out: &mut W,
     s: &Station,
@@ -90,18 +98,9 @@ fn draw_write<W: Write>(
     to: PortIndex,
     entry: RowAt,
 ) -> io::Result<()> {
+    let (words, look) = look_of(s.ports.fate(&s.e, to));
     begin_arrow(out, s, RowAt::of(from), RowAt::of(to))?;
-    let look = match s.ports.fate(&s.e, to) {
-        Fate::Triggers | Fate::Sent => WRITES,
-        Fate::OnlyRead => {
-            write!(out, "only read")?;
-            ONLY_READ
-        }
-        Fate::NeverScheduled => {
-            write!(out, "never scheduled")?;
-            NEVER
-        }
-    };
+    write!(out, "{words}")?;
     s.end_node(out, s.refused.marks(entry), look)
 }
 
@@ -164,6 +163,23 @@ impl List {
         RowAt { table, index: i }
     }
 
+    // The arrow of an entry of a scope's list.
+    fn draw_of_scope<W: Write>(
+        self,
+        out: &mut W,
+        s: &Station,
+        node: RowAt,
+        entry: RowAt,
+    ) -> io::Result<()> {
+        let k = entry.index as usize;
+        let to = match self {
+            List::StartupReactions => s.e.row_at::<ScopeStartupReaction>(k).holds.reaction,
+            List::ShutdownReactions => s.e.row_at::<ScopeShutdownReaction>(k).holds.reaction,
+            _ => s.e.row_at::<ScopeResetReaction>(k).holds,
+        };
+        draw_level(out, s, node, to, entry, TIMED)
+    }
+
     // The arrow of entry k, which row i holds.
     fn draw<W: Write>(self, out: &mut W, s: &Station, i: u32, k: u32) -> io::Result<()> {
         let (at, node, table) = (k as usize, self.node(i), self.table());
@@ -185,18 +201,7 @@ impl List {
                 let to: ReactionAction = s.e.row_at(at);
                 draw_plain(out, s, node, RowAt::of(to.holds), entry)
             }
-            List::ResetReactions => {
-                let to: ScopeResetReaction = s.e.row_at(at);
-                draw_level(out, s, node, to.holds, entry, TIMED)
-            }
-            List::StartupReactions => {
-                let to: ScopeStartupReaction = s.e.row_at(at);
-                draw_level(out, s, node, to.holds.reaction, entry, TIMED)
-            }
-            List::ShutdownReactions => {
-                let to: ScopeShutdownReaction = s.e.row_at(at);
-                draw_level(out, s, node, to.holds.reaction, entry, TIMED)
-            }
+            _ => self.draw_of_scope(out, s, node, entry),
         }
     }
 }
