@@ -44,6 +44,17 @@ pub(crate) struct Parts<'a> {
     pub(crate) house: &'a [u8],
 }
 
+impl<'a> Parts<'a> {
+    fn image(self) -> Image<'a> {
+        let Parts { pack, batch, house } = self;
+        Image {
+            pack: &*pack,
+            batch,
+            house,
+        }
+    }
+}
+
 fn name_in(rt: &HostRuntime, dir: &str, name: &str) -> io::Result<PathBuf> {
     Ok(Path::new(dir).join(rt.alloc(), name)?)
 }
@@ -181,25 +192,15 @@ pub(crate) fn answer<W: Write, const PACK: usize, const TEXT: usize>(
         Ok(parts) => parts,
         Err(error) => return Ok(write_no_answer(out, error)?),
     };
-    let question = match asked {
-        Asked::Change(change) => {
-            return changes::answer(rt, out, file, parts, change, explain);
+    match asked {
+        Asked::Change(change) => changes::answer(rt, out, file, parts, change, explain),
+        Asked::Image(question) => {
+            let about = About {
+                image: parts.image(),
+                kind,
+                explain,
+            };
+            answer_image(out, &about, question)
         }
-        Asked::Image(question) => question,
-    };
-    let Parts { pack, batch, house } = parts;
-    let image = Image {
-        pack: &*pack,
-        batch,
-        house,
-    };
-    answer_image(
-        out,
-        &About {
-            image,
-            kind,
-            explain,
-        },
-        question,
-    )
+    }
 }
