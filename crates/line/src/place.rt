@@ -2,6 +2,7 @@
 mod boundary;
 mod faults;
 mod identities;
+mod levels;
 mod line_faults;
 mod packed;
 mod station;
@@ -9,6 +10,7 @@ mod station;
 use crate::image::{Image, Kind};
 use crate::place::boundary::boundary_fault;
 use crate::place::faults::{named_row, write_fault};
+use crate::place::levels::port_between;
 use crate::place::line_faults::line_fault;
 use crate::place::packed::packing_fault;
 use crate::place::station::{Station, own_station, refused_station, station_at};
@@ -28,15 +30,12 @@ fn row_before<'a>(station: &Station<'a>, named: RowName, refusal: &[u64]) -> Opt
     }
 }
 
-// The other row that the refusal is about: the one that its field names, the station's own for its slots, the reaction that is triggered.
+// The other row that the refusal is about: the one that its field names, or the station's own for its slots.
 fn other_row<'a>(station: &Station<'a>, row: RowText, refusal: &[u64]) -> Option<RowText<'a>> {
     match refusal {
         [17 | 24, _, _, field] => named_row(station, row, *field),
         [23, ..] => Some(station.own_row()),
-        _ => {
-            let RowName { table, index } = target_named(refusal)?;
-            station.row(table, index)
-        }
+        _ => None,
     }
 }
 
@@ -45,6 +44,17 @@ fn write_row<W: Write>(out: &mut W, row: Option<RowText>) -> io::Result<()> {
         writeln!(out, "{row}")?;
     }
     Ok(())
+}
+
+// The reaction that one triggers, after the port by which it does.
+fn write_target<W: Write>(
+    out: &mut W,
+    station: &Station,
+    row: RowText,
+    target: RowName,
+) -> io::Result<()> {
+    write_row(out, port_between(station, row, target.index))?;
+    write_row(out, station.row(target.table, target.index))
 }
 
 // The rows of a refusal of a station, the one that it names after the one before it.
@@ -57,7 +67,10 @@ fn write_rows<W: Write>(out: &mut W, station: &Station, refusal: &[u64]) -> io::
         return Ok(());
     };
     writeln!(out, "{row}")?;
-    write_row(out, other_row(station, row, refusal))
+    match target_named(refusal) {
+        Some(target) => write_target(out, station, row, target),
+        None => write_row(out, other_row(station, row, refusal)),
+    }
 }
 
 // A refusal of a station: its place and its identity, the rows, and what does not fit.

@@ -31,7 +31,7 @@ fn steps(field: u64) -> (&'static str, &'static str) {
 }
 
 // The number of the row that a field of that name names.
-fn key_in(row: RowText, name: &str) -> Option<u32> {
+pub(crate) fn key_in(row: RowText, name: &str) -> Option<u32> {
     match value_of(row.record, name)? {
         Value::Key { index, .. } => Some(index),
         _ => None,
