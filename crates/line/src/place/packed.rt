@@ -40,7 +40,7 @@ fn write_place<W: Write>(out: &mut W, before: Option<u8>, table: u8) -> io::Resu
     }
 }
 
-// The first byte that is over its limit: one that its table does not use, or whose field is absent.
+// The first byte that is over its limit: a bit or a kind that its table has not, a byte that it does not use, or one of an absent field.
 fn stray_byte(record: Record, limits: &Limits) -> Option<usize>
     ensures { IfSome result (λ j. j < 64) }
 {
