@@ -56,7 +56,7 @@ pub struct Mix {
 }
 
 impl Mix {
-    /// The mix with this name: a group, a style, `large`, `deep`, `night`, `owner`,, `tally` `change`, `convert`, `rising` or `trees`.
+    /// The mix with this name: a group, a style, `large`, `deep`, `night`, `owner`, `tally`, `change`, `convert`, `rising` or `trees`.
     pub fn named(name: &str) -> Option<Self> {
         let found = GROUPS.iter().find(|group| group.0 == name);
         let (names, kind) = found.map_or((vec![name], None), |group| (group.1.to_vec(), group.2));

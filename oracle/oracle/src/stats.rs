@@ -58,7 +58,7 @@ fn table(counts: &Counts) {
 }
 
 fn group(answer: &Answer, kind: u8) -> String {
-    let name = ["station", "line", "line at night", "unknown", "rising station"].get(kind as usize).unwrap_or(&"unknown");
+    let name = ["station", "line", "line at night", "rising station"].get(kind as usize).unwrap_or(&"unknown");
     match answer {
         Answer::Accepted { .. } => format!("accepted, {name}"),
         Answer::Refused(numbers) => format!("refused {:02} {}", numbers[0], refusal_of(numbers[0]).name),
