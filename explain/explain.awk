@@ -83,6 +83,7 @@ function refused(n) {
   if (n <= 25) return of_reactors_and_bindings(n)
   if (n <= 28) return of_routes(n)
   if (n <= 31) return of_the_night(n)
+  if (n == 32) return of_levels(n)
   if (n <= 37) return of_hosts(n)
   if (n == 38 || (n >= 41 && n <= 43)) return of_trees(n)
   return n <= 39 ? of_deadlines(n) : of_tallies(n)
@@ -148,8 +149,13 @@ function of_the_night(n) {
   return ""
 }
 
+function of_levels(n) {
+  return has(2) ? "reactions[" $3 "] writes a port that triggers reactions[" $4 "], whose level is not above its own." : ""
+}
+
 function of_hosts(n) {
   if (!has(0)) return ""
+  if (n == 33) return "The lent memory is shorter than the reactions of the station need."
   if (n == 34) return "The output is shorter than the pack to be converted."
   if (n == 35) return "The pack has no record of that number."
   if (n == 36) return "The record to be put in is not 64 bytes long."

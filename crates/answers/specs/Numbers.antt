@@ -5,7 +5,7 @@ use Rattle.schema.specs.Records.{direction_number}
 use Rattle.answers.specs.declared.field.RowField.{RowField}
 use Rattle.answers.specs.declared.id.StableId.{StableId}
 use Rattle.answers.specs.declared.Refusal.{Refusal}
-use Rattle.answers.specs.declared.Refusal.TheVariants.{Length, TextTooLong, TableOutOfPlace, StrayByte, IdentityOutside, NotUtf8, ReferenceOutOfBounds, RangeOutOfBounds, RangesNotMonotonic, EntriesNotSorted, DuplicateEntry, OwnershipMismatch, ScopeParentCycle, InvalidStableId, StableIdsNotSorted, DuplicateStableId, InvalidBankInfo, StorageBoundExceeded, BindingKindMismatch, BindingPresenceMismatch, DuplicateRouteHalf, RoutePairMismatch, UnpairedRoute, PhysicalRoute, ScopeTooDeep, TooManyReactors, OutputTooShort, NoSuchRecord, RecordLength, TableChanges, ScopeCount, ZeroDeadline, TallyFull, ParentsLength, ParentOutside, NotATree, LinkSumTooLarge, NothingToDivide, NoSuchTally}
+use Rattle.answers.specs.declared.Refusal.TheVariants.{Length, TextTooLong, TableOutOfPlace, StrayByte, IdentityOutside, NotUtf8, ReferenceOutOfBounds, RangeOutOfBounds, RangesNotMonotonic, EntriesNotSorted, DuplicateEntry, OwnershipMismatch, ScopeParentCycle, InvalidStableId, StableIdsNotSorted, DuplicateStableId, InvalidBankInfo, StorageBoundExceeded, BindingKindMismatch, BindingPresenceMismatch, DuplicateRouteHalf, RoutePairMismatch, UnpairedRoute, PhysicalRoute, ScopeTooDeep, TooManyReactors, LevelNotRising, ScratchTooShort, OutputTooShort, NoSuchRecord, RecordLength, TableChanges, ScopeCount, ZeroDeadline, TallyFull, ParentsLength, ParentOutside, NotATree, LinkSumTooLarge, NothingToDivide, NoSuchTally}
 use Rattle.answers.specs.Fields.{field_number, kind_number}
 
 abbrev pub bit : Bool → ℕ
@@ -49,6 +49,8 @@ numbers (UnpairedRoute boundary direction) = 26 ∷ placed boundary (direction_n
 numbers (PhysicalRoute enclave route) = 29 ∷ enclave ∷ route ∷ []
 numbers (ScopeTooDeep enclave scope) = 30 ∷ enclave ∷ scope ∷ []
 numbers (TooManyReactors enclave reactors) = 31 ∷ enclave ∷ reactors ∷ []
+numbers (LevelNotRising reaction target) = 32 ∷ reaction ∷ target ∷ []
+numbers ScratchTooShort = 33 ∷ []
 numbers OutputTooShort = 34 ∷ []
 numbers NoSuchRecord = 35 ∷ []
 numbers RecordLength = 36 ∷ []

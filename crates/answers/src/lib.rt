@@ -18,7 +18,7 @@ use std::fmt;
 
 // One variant for each refusal of document 01 that a pack can have (all but 11), named as the Rust names it, with its values one by one as the Rust has
 // them, and then those of document 02, in their order; 1 to 6 are the packing rules', 26 and
-// 29 to 31 the night's, 34 the converter's, 35 to 37 a change's, 38 and 41 to 43 those of small scope trees, 40 and 44 to 46 a tally's.
+// 29 to 31 the night's, 32 and 33 those of rising levels, 34 the converter's, 35 to 37 a change's, 38 and 41 to 43 those of small scope trees, 40 and 44 to 46 a tally's.
 // Which text is too long is shown by the bit that tells an identity's text, 0 for the batch and 1 for the house.
 #[derive(Clone, Copy, Debug)]
 pub enum Refusal {
@@ -119,6 +119,11 @@ pub enum Refusal {
         enclave: u32,
         reactors: u32,
     },
+    LevelNotRising {
+        reaction: u32,
+        target: u32,
+    },
+    ScratchTooShort,
     OutputTooShort,
     NoSuchRecord,
     RecordLength,
@@ -259,6 +264,10 @@ impl Refusal {
             Refusal::TooManyReactors { enclave, reactors } => {
                 listed(&[31, u64::from(enclave), u64::from(reactors)])
             }
+            Refusal::LevelNotRising { reaction, target } => {
+                listed(&[32, u64::from(reaction), u64::from(target)])
+            }
+            Refusal::ScratchTooShort => listed(&[33]),
             Refusal::OutputTooShort => listed(&[34]),
             Refusal::NoSuchRecord => listed(&[35]),
             Refusal::RecordLength => listed(&[36]),

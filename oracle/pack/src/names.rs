@@ -76,7 +76,7 @@ const fn refusal(number: u64, name: &'static str, values: &'static [Value]) -> R
 
 const IDENTITY: &[Value] = &[Kind, INDEX, BIT, START, LENGTH];
 
-pub const REFUSALS: [Refusal; 39] = [
+pub const REFUSALS: [Refusal; 41] = [
     refusal(1, "length of the pack", &[]),
     refusal(2, "text too long", &[Plain("text")]),
     refusal(3, "table number unknown or out of place", &[RECORD]),
@@ -103,6 +103,8 @@ pub const REFUSALS: [Refusal; 39] = [
     refusal(29, "PhysicalRoute", &[STATION, Plain("route")]),
     refusal(30, "ScopeTooDeep", &[STATION, Plain("scope")]),
     refusal(31, "TooManyReactors", &[STATION, Plain("reactors")]),
+    refusal(32, "LevelNotRising", &[Plain("reaction"), Plain("target")]),
+    refusal(33, "ScratchTooShort", &[]),
     refusal(34, "OutputTooShort", &[]),
     refusal(35, "NoSuchRecord", &[]),
     refusal(36, "RecordLength", &[]),
