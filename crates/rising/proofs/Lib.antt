@@ -1,0 +1,9 @@
+pub mod Settled
+pub mod LevelLaws
+pub mod Ways
+pub mod Closure
+pub mod Climb
+pub mod MarkLaws
+pub mod Steps
+pub mod Counting
+pub mod AnswerLaws
