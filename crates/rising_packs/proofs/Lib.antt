@@ -1,0 +1,4 @@
+pub mod Same
+pub mod Twins
+pub mod Larger
+pub mod Unlooked
