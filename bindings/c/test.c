@@ -9,7 +9,20 @@
 #include "image_check.h"
 
 /* The kinds of question. */
-enum { STATION = 0, LINE = 1, NIGHT = 2, OWNER = 6, CONVERT = 7, CHANGE = 8, PREVIEW = 9, FIRST_TREE = 10, NEXT_TREE = 11, TALLY = 12 };
+enum {
+    STATION = 0,
+    LINE = 1,
+    NIGHT = 2,
+    RISING = 3,
+    REACHED_BYTES = 4,
+    OWNER = 6,
+    CONVERT = 7,
+    CHANGE = 8,
+    PREVIEW = 9,
+    FIRST_TREE = 10,
+    NEXT_TREE = 11,
+    TALLY = 12
+};
 
 /* The most bytes that a case lends. */
 enum { MOST_LENT = 65536 };
@@ -271,6 +284,25 @@ static int answer_tree(uint8_t kind, int null_if_empty, int whole)
     return whole && known;
 }
 
+/* Answers what a reaction reaches, by what follows the parts of its case; 0 where the run ends with it. */
+static int answer_reached(const uint8_t *head, const uint8_t *pack, const uint8_t *batch, const uint8_t *house, int null_if_empty, int whole)
+{
+    size_t p = length_at(head + 1), b = length_at(head + 5), h = length_at(head + 9), n;
+    uint32_t reaction = next_word(&whole), count;
+    int known = 1;
+    uint8_t *marks = next_lent(&n, null_if_empty, &whole, &known);
+    uint64_t *numbers = exactly(8 * sizeof *numbers);
+    memset(numbers, 0xA5, 8 * sizeof *numbers);
+    if (!ends(whole, known)) {
+        count = reached_in_bytes_of_image(pack, p, batch, b, house, h, reaction, marks, n, numbers);
+        print_words("reached", numbers, count);
+        print_bytes(marks, n);
+    }
+    free(marks);
+    free(numbers);
+    return whole && known;
+}
+
 /* Answers one case whose first 13 bytes are `head`; 0 where the run ends with it. */
 static int answer_case(const uint8_t *head, int null_if_empty)
 {
@@ -290,6 +322,8 @@ static int answer_case(const uint8_t *head, int null_if_empty)
         whole = answer_conversion(pack, p, null_if_empty, whole);
     else if (head[0] == FIRST_TREE || head[0] == NEXT_TREE)
         whole = answer_tree(head[0], null_if_empty, whole);
+    else if (head[0] == REACHED_BYTES)
+        whole = answer_reached(head, pack, batch, house, null_if_empty, whole);
     else if (!whole)
         puts("cut off");
     else if (head[0] == STATION)
@@ -298,6 +332,8 @@ static int answer_case(const uint8_t *head, int null_if_empty)
         print_answer("accepted", numbers, check_federate_image(pack, p, batch, b, house, h, numbers));
     else if (head[0] == NIGHT)
         print_answer("accepted", numbers, check_federate_image_night(pack, p, batch, b, house, h, numbers));
+    else if (head[0] == RISING)
+        print_answer("accepted", numbers, check_rising_image(pack, p, batch, b, house, h, numbers));
     else if (head[0] == OWNER)
         print_answer("owner", numbers, mode_owner_of_image(pack, p, batch, b, house, h, mode, numbers));
     else {

@@ -1,7 +1,9 @@
 //! Answers a corpus on standard input as the program `replay` does (oracle/README.md has the format).
 use image_check::{
     
-    change_record, check_enclave, check_federate, check_federate_night, convert_enclave, convert_federate, first_tree, mode_owner, preview_record, next_tree, Fraction, Next, Refusal, Tally,
+    change_record, check_enclave, check_federate, check_federate_night, convert_enclave, convert_federate, first_tree, check_rising, mode_owner, preview_record, next_tree, reached_in_bytes,
+};
+use image_check::{Fraction, Next, Refusal, Tally,
 };
 use std::io::{self, Read, Write};
 
@@ -111,6 +113,12 @@ fn tree(kind: u8, rest: &mut &[u8]) -> Option<String> {
     Some(format!("{answer} | {}", if digits.is_empty() { "-" } else { &digits }))
 }
 
+/// An answer with the bytes that were lent, as they are after it.
+fn with_lent(answer: impl ToString, lent: &[u8]) -> String {
+    let digits: String = lent.iter().map(|byte| format!("{byte:02x}")).collect();
+    format!("{} | {}", answer.to_string(), if lent.is_empty() { "-" } else { &digits })
+}
+
 /// The line of the next case, or nothing where the input ends inside it.
 fn next(rest: &mut &[u8]) -> Option<String> {
     let kind = take(rest, 1)?[0];
@@ -122,6 +130,13 @@ fn next(rest: &mut &[u8]) -> Option<String> {
         0 => check_enclave(&pack, &batch, &house).to_string(),
         1 => check_federate(&pack, &batch, &house).to_string(),
         2 => check_federate_night(&pack, &batch, &house).to_string(),
+        3 => check_rising(&pack, &batch, &house).to_string(),
+        4 => {
+            let reaction = number(rest)?;
+            let lent_length = length(rest)?;
+            let mut lent = take(rest, lent_length)?;
+            with_lent(reached_in_bytes(&pack, &batch, &house, reaction, &mut lent), &lent)
+        }
         6 => mode_owner(&pack, &batch, &house, number(rest)?).to_string(),
         8 | 9 => change(kind, pack, [&batch, &house], rest)?,
         7 => conversion(&pack, rest)?,

@@ -57,6 +57,28 @@ impl fmt::Display for Answer {
     }
 }
 
+/// Bytes of stack that are enough for [`reached_in_bytes`]: it goes down as far as the longest chain of reactions that a pack can hold. A thread
+/// of Rust's has as many unless it is asked for fewer.
+pub const REACH_STACK: usize = 2 << 20;
+
+/// What a reaction reaches. It is shown in the words of the program `replay`.
+#[derive(Clone, Copy, Debug, PartialEq, Eq)]
+pub enum Reached {
+    /// How many other reactions.
+    Count(u32),
+    /// The fault found first; the scratch is as it was.
+    Refused(Refusal),
+}
+
+impl fmt::Display for Reached {
+    fn fmt(&self, f: &mut fmt::Formatter<'_>) -> fmt::Result {
+        match self {
+            Reached::Count(count) => write!(f, "reached {count}"),
+            Reached::Refused(refusal) => refusal.fmt(f),
+        }
+    }
+}
+
 /// Whose mode it is. It is shown in the words of the program `replay`.
 #[derive(Clone, Copy, Debug, PartialEq, Eq)]
 pub enum Owner {
@@ -211,6 +233,29 @@ extern "C" {
         numbers: *mut [u64; 8],
     ) -> u32;
 
+    fn check_rising_image(
+        pack: *const u8,
+        pack_len: usize,
+        batch: *const u8,
+        batch_len: usize,
+        house: *const u8,
+        house_len: usize,
+        numbers: *mut [u64; 8],
+    ) -> u32;
+
+    fn reached_in_bytes_of_image(
+        pack: *const u8,
+        pack_len: usize,
+        batch: *const u8,
+        batch_len: usize,
+        house: *const u8,
+        house_len: usize,
+        reaction: u32,
+        scratch: *mut u8,
+        scratch_len: usize,
+        numbers: *mut [u64; 8],
+    ) -> u32;
+
     fn add_accepted_to_tally(tally: *mut Tally, links: u64, numbers: *mut [u64; 8]) -> u32;
     fn add_refused_to_tally(tally: *mut Tally, numbers: *mut [u64; 8]) -> u32;
     fn share_of_tally(tally: *const Tally, numbers: *mut [u64; 8]) -> u32;
@@ -294,6 +339,37 @@ pub fn change_record(pack: &mut [u8], batch: &[u8], house: &[u8], number: u32, r
     of_line(written_by(|written| unsafe {
         change_record_of_line(p, p_len, b, b_len, h, h_len, number, r, r_len, written)
     }))
+}
+
+/// Checks a station's image a second time: after the ordinary check, that levels rise. Each reaction must stand on a lower level than every reaction that
+/// its ports trigger.
+pub fn check_rising(pack: &[u8], batch: &[u8], house: &[u8]) -> Answer {
+    let refusal = numbers(check_rising_image, [pack, batch, house]);
+    match refusal.values {
+        [0, links, ..] => Answer::Enclave { links },
+        _ => Answer::Refused(refusal),
+    }
+}
+
+/// How many other reactions one reaches, in a station that [`check_rising`] accepts. The first bytes of the scratch, one for each reaction, are 1 for those
+/// and 0 for the others. It needs [`REACH_STACK`] bytes of stack.
+pub fn reached_in_bytes(
+    pack: &[u8],
+    batch: &[u8],
+    house: &[u8],
+    reaction: u32,
+    scratch: &mut [u8],
+) -> Reached {
+    let [(p, p_len), (b, b_len), (h, h_len)] = [pack, batch, house].map(|part| (part.as_ptr(), part.len()));
+    let (s, s_len) = (scratch.as_mut_ptr(), scratch.len());
+    // SAFETY: as in `numbers`; the scratch is this call's alone.
+    let refusal = written_by(|written| unsafe {
+        reached_in_bytes_of_image(p, p_len, b, b_len, h, h_len, reaction, s, s_len, written)
+    });
+    match refusal.values {
+        [0, count, ..] => Reached::Count(count as u32),
+        _ => Reached::Refused(refusal),
+    }
 }
 
 /// The reactor that a mode of a station belongs to.

@@ -1,9 +1,9 @@
 //! A few packs by hand, and large ones on a stack of `STACK` bytes.
 use image_check::{
-    change_record, check_enclave, check_federate, check_federate_night, first_tree, mode_owner, next_tree,
-    preview_record,
+    change_record, check_enclave, check_federate, check_federate_night, check_rising, first_tree, mode_owner,
+    next_tree, preview_record, reached_in_bytes,
 };
-use image_check::{Answer, Fraction, Next, Owner, Tally, CHANGE_STACK, STACK};
+use image_check::{Answer, Fraction, Next, Owner, Reached, Tally, CHANGE_STACK, REACH_STACK, STACK};
 
 /// A record: its table, its bytes 1 and 2, and the words from byte 4 on.
 fn record(table: u8, bits: [u8; 2], words: &[u32]) -> Vec<u8> {
@@ -155,6 +155,81 @@ fn owners_of_modes() {
     assert_eq!(owner(b"", 0).to_string(), "refused 1");
 }
 
+/// S with a reaction on each of these levels. Port i triggers the reactions of the i-th list, and reaction i has effects on the ports of the i-th. The batch
+/// text starts with `abcd`.
+fn levelled(levels: &[u32], triggers: &[&[u32]], effects: &[&[u32]]) -> Vec<u8> {
+    let (mut ports, mut reactions, mut lists) = (vec![], vec![], [vec![], vec![]]);
+    let mut at = 0;
+    for targets in triggers {
+        ports.extend(record(4, [0, 0], &[2, 0, at, targets.len() as u32]));
+        at += targets.len() as u32;
+        targets
+            .iter()
+            .for_each(|target| lists[0].extend(record(8, [0, 0], &[levels[*target as usize], *target])));
+    }
+    at = 0;
+    for (level, written) in levels.iter().zip(effects) {
+        reactions.extend(record(5, [0, 0], &[0, 0, *level, 1, 0, 0, at, written.len() as u32]));
+        at += written.len() as u32;
+        written.iter().for_each(|port| lists[1].extend(record(10, [0, 0], &[*port])));
+    }
+    let bindings = [record(24, [0, 0], &[1, 1]), record(24, [0, 1], &[2, 1]), record(24, [0, 2], &[3, 1])];
+    let head = [record(1, [0, 0], &[0, 1, 1]), record(2, [0, 0], &[])].concat();
+    [head, ports, reactions, scope(0), lists.concat(), bindings.concat()].concat()
+}
+
+/// Reaction 0 triggers 1 and 2, and both of these trigger 3; 4 is by itself.
+fn diamond(level: u32) -> Vec<u8> {
+    levelled(&[0, 1, level, 2, 0], &[&[1, 2], &[3], &[3]], &[&[0], &[1], &[2], &[], &[]])
+}
+
+fn try_reaching() {
+    let (pack, text) = (diamond(1), b"abcd");
+    assert_eq!(check_rising(&pack, text, b""), Answer::Enclave { links: 0 });
+    let mut bytes = [0xA5; 6];
+    assert_eq!(reached_in_bytes(&pack, text, b"", 0, &mut bytes), Reached::Count(3));
+    assert_eq!(bytes, [0, 1, 1, 1, 0, 0xA5]);
+    assert_eq!(reached_in_bytes(&pack, text, b"", 0, &mut bytes).to_string(), "reached 3");
+    assert_eq!(reached_in_bytes(&pack, text, b"", 4, &mut bytes), Reached::Count(0));
+    assert_eq!(bytes, [0, 0, 0, 0, 0, 0xA5]);
+    for (reaction, scratch, expected) in
+        [(5, 9, "refused 12 5 0 27 5 5 5"), (5, 0, "refused 12 5 0 27 5 5 5"), (0, 4, "refused 33")]
+    {
+        let mut lent = vec![0x5A; scratch];
+        assert_eq!(reached_in_bytes(&pack, text, b"", reaction, &mut lent).to_string(), expected);
+        assert_eq!(lent, vec![0x5A; scratch]);
+    }
+    let level = levelled(&[0, 0], &[&[1]], &[&[0], &[]]);
+    assert_eq!(check_enclave(&level, text, b""), Answer::Enclave { links: 0 });
+    assert_eq!(check_rising(&level, text, b"").to_string(), "refused 32 0 1");
+    assert_eq!(reached_in_bytes(&level, text, b"", 7, &mut []).to_string(), "refused 32 0 1");
+}
+
+#[test]
+fn reaching() {
+    on_stack(REACH_STACK, try_reaching);
+}
+
+/// The longest chain of reactions that a pack holds: each has a port of its own, which triggers the next.
+#[test]
+fn longest_chain() {
+    let count = 16383u32;
+    let levels: Vec<u32> = (0..count).collect();
+    let next: Vec<[u32; 1]> = (1..count).map(|target| [target]).collect();
+    let own: Vec<[u32; 1]> = (0..count - 1).map(|port| [port]).collect();
+    let triggers: Vec<&[u32]> = next.iter().map(|one| &one[..]).collect();
+    let effects: Vec<&[u32]> = own.iter().map(|one| &one[..]).chain([&[][..]]).collect();
+    let pack = levelled(&levels, &triggers, &effects);
+    assert!(pack.len() <= 4194304 && pack.len() + 4 * 64 > 4194304, "{}", pack.len());
+    let (answer, marks) = on_stack(REACH_STACK, move || {
+        let mut bytes = vec![2; count as usize];
+        let answer = reached_in_bytes(&pack, b"abcd", b"", 0, &mut bytes);
+        (answer, bytes.iter().map(|byte| u32::from(*byte)).sum::<u32>())
+    });
+    assert_eq!(answer, Reached::Count(count - 1));
+    assert_eq!(marks, count - 1);
+}
+
 fn try_tallies() {
     let mut tally = Tally::default();
     let refused = |number: u64| format!("refused {number}");
@@ -262,6 +337,7 @@ fn same_stack_as_in_the_header() {
     let header = include_str!("../../c/image_check.h");
     assert!(header.contains(&format!("#define IMAGE_CHECK_STACK {STACK}\n")));
     assert!(header.contains(&format!("#define IMAGE_CHECK_CHANGE_STACK {CHANGE_STACK}\n")));
+    assert!(header.contains(&format!("#define IMAGE_CHECK_REACH_STACK {REACH_STACK}\n")));
 }
 
 #[test]

@@ -3,6 +3,7 @@
 
 pub mod changes;
 pub mod conversions;
+pub mod reached;
 pub mod scope_trees;
 pub mod tallies;
 

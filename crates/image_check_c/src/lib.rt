@@ -9,6 +9,8 @@ ghost use Rattle.night.specs.Night.{night_answer};
 ghost use Rattle.mode_owner.specs.Owner.{owner_answer};
 ghost use Rattle.change.specs.Change.{change_answer, pack_after};
 ghost use Rattle.convert.specs.Convert.{convert_checks, output_after};
+ghost use Rattle.rising.specs.Rising.{rising_answer};
+ghost use Rattle.rising.specs.Answer.{reach_answer, scratch_after};
 ghost use Rattle.tally.specs.declared.LineResult.TheVariants.{Accepted, Refused};
 ghost use Rattle.tally.specs.Tally.{add_answer, added};
 ghost use Rattle.tally.specs.Fractions.{share, mean};
@@ -17,7 +19,7 @@ ghost use Rattle.image_check.specs.Tallies.{tally_of, tally_numbers, fraction_nu
 ghost use Rattle.trees.specs.Answer.{first_answer, first_bytes, next_answer, next_bytes};
 ghost use Rattle.image_check.specs.ScopeTrees.{first_numbers, next_numbers};
 
-use image_check::{changes, conversions, scope_trees, tallies};
+use image_check::{changes, conversions, reached, scope_trees, tallies};
 use packing::PackKind;
 
 // The answer for an enclave pack and its two texts; the result is how many of `numbers` hold it.
@@ -128,6 +130,35 @@ pub extern "C" fn convert_federate_image<'a>(
     ensures output { out.new ≡ output_after (first (convert_checks PackKind.Federate pack.now (length out.old))) pack.now out.old }
 {
     conversions::convert_image(PackKind::Federate, pack, out, numbers)
+}
+
+// The answer of the second check for an enclave pack; the result is how many of `numbers` hold it.
+#[unsafe(no_mangle)]
+pub extern "C" fn check_rising_image<'a>(
+    pack: &'a [u8],
+    batch: &'a [u8],
+    house: &'a [u8],
+    numbers: &mut [u64; 8],
+) -> u32
+    ensures { Answered (rising_answer pack.now batch.now house.now) result numbers.new }
+{
+    reached::check_rising_image(pack, batch, house, numbers)
+}
+
+// How many other reactions one reaches, marked in a byte each; the result is how many of `numbers` hold the answer.
+#[unsafe(no_mangle)]
+pub extern "C" fn reached_in_bytes_of_image<'a>(
+    pack: &'a [u8],
+    batch: &'a [u8],
+    house: &'a [u8],
+    reaction: u32,
+    scratch: &mut [u8],
+    numbers: &mut [u64; 8],
+) -> u32
+    ensures answer { Answered (reach_answer pack.now batch.now house.now reaction scratch.old) result numbers.new }
+    ensures scratch { scratch.new ≡ scratch_after pack.now batch.now house.now reaction scratch.old }
+{
+    reached::count_reached_in_image(pack, batch, house, reaction, scratch, numbers)
 }
 
 // Adds an accepted answer to a tally, with its links; the result is how many of `numbers` hold the answer.
