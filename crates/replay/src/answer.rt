@@ -6,6 +6,7 @@ use federate::FederateAccepted;
 use federate::check::check_federate;
 use mode_owner::mode_owner;
 use night::check_federate_night;
+use rising::rising::check_rising;
 use schema::index::ReactorIndex;
 use std::fmt;
 
@@ -15,6 +16,7 @@ pub enum Answer {
     Enclave(Result<u64, Refusal>),
     Federate(Result<FederateAccepted, Refusal>),
     ModeOwner(Result<ReactorIndex, Refusal>),
+    Reached(Result<u32, Refusal>),
 }
 
 pub fn answer_of(case: Case) -> Answer {
@@ -28,6 +30,7 @@ pub fn answer_of(case: Case) -> Answer {
         Question::Enclave => Answer::Enclave(check_enclave(pack, batch, house)),
         Question::Federate => Answer::Federate(check_federate(pack, batch, house)),
         Question::FederateNight => Answer::Federate(check_federate_night(pack, batch, house)),
+        Question::Rising => Answer::Enclave(check_rising(pack, batch, house)),
         Question::ModeOwner { mode } => Answer::ModeOwner(mode_owner(pack, batch, house, mode)),
     }
 }
@@ -40,9 +43,11 @@ impl fmt::Display for Answer {
                 write!(f, "accepted {enclaves} {links}")
             }
             Answer::ModeOwner(Ok(reactor)) => write!(f, "owner {}", reactor.0),
+            Answer::Reached(Ok(count)) => write!(f, "reached {count}"),
             Answer::Enclave(Err(refusal))
             | Answer::Federate(Err(refusal))
-            | Answer::ModeOwner(Err(refusal)) => write!(f, "refused {refusal}"),
+            | Answer::ModeOwner(Err(refusal))
+            | Answer::Reached(Err(refusal)) => write!(f, "refused {refusal}"),
         }
     }
 }

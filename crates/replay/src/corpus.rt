@@ -3,8 +3,10 @@ use crate::answer::answer_of;
 use crate::changes::{ChangeCase, change_answer, read_change};
 use crate::conversion::{Conversion, conversion_answer, read_conversion};
 use crate::input::{
-    CHANGE, CONVERT, FIRST_TREE, NEXT_TREE, PREVIEW, ReadError, Room, TALLY, read_kind, read_parts,
+    CHANGE, CONVERT, FIRST_TREE, NEXT_TREE, PREVIEW, REACHED_BYTES, ReadError, Room, TALLY,
+    read_kind, read_parts,
 };
+use crate::reached::{ReachedCase, reached_answer, read_reached};
 use crate::scope_trees::{TreeCase, Wanted, read_tree, tree_answer};
 use crate::steps::{TallyCase, read_step, read_tally, step_answer};
 use arrayvec::ArrayVec;
@@ -94,6 +96,15 @@ fn add_tree<W: Write>(output: &mut W, lines: &mut Lines, case: TreeCase) -> io::
     writeln!(lines)
 }
 
+// Adds the line of what a reaction reaches: the answer, and the marks.
+fn add_reached<W: Write>(output: &mut W, lines: &mut Lines, case: ReachedCase) -> io::Result<()> {
+    let mut case = case;
+    let answer = reached_answer(&mut case);
+    write!(lines, "{answer}")?;
+    add_bytes(output, lines, case.scratch)?;
+    writeln!(lines)
+}
+
 // Takes what follows the first byte of a case of that kind, and adds its line.
 fn answer_case<R: BufRead, W: Write>(
     kind: u8,
@@ -103,6 +114,10 @@ fn answer_case<R: BufRead, W: Write>(
     lines: &mut Lines,
 ) -> Result<(), ReadError> {
     let added = match kind {
+        REACHED_BYTES => {
+            let case = read_reached(input, room)?;
+            add_reached(output, lines, case)
+        }
         CHANGE | PREVIEW => {
             let case = read_change(kind == CHANGE, input, room)?;
             add_change(output, lines, case)

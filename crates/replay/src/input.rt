@@ -4,12 +4,13 @@ ghost use Rattle.std.specs.Prelude.{◌≤◌, length, IfOk};
 use std::io;
 use std::io::{BufRead, ErrorKind, Read};
 
-// What is asked of a pack and its texts: the check of an enclave, of a federate or of one at night, or the owner of a mode.
+// What is asked of a pack and its texts, where nothing is lent to be written: a check, by day, at night or with rising levels, or the owner of a mode.
 #[derive(Clone, Copy)]
 pub enum Question {
     Enclave,
     Federate,
     FederateNight,
+    Rising,
     ModeOwner { mode: u32 },
 }
 
@@ -28,6 +29,10 @@ const ENCLAVE: u8 = 0;
 const FEDERATE: u8 = 1;
 
 const FEDERATE_NIGHT: u8 = 2;
+
+const RISING: u8 = 3;
+
+pub const REACHED_BYTES: u8 = 4;
 
 const MODE_OWNER: u8 = 6;
 
@@ -139,6 +144,7 @@ fn read_question<R: Read>(kind: u8, input: &mut R) -> Result<Question, ReadError
         ENCLAVE => Ok(Question::Enclave),
         FEDERATE => Ok(Question::Federate),
         FEDERATE_NIGHT => Ok(Question::FederateNight),
+        RISING => Ok(Question::Rising),
         MODE_OWNER => Ok(Question::ModeOwner {
             mode: read_u32(input)?,
         }),

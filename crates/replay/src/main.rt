@@ -6,6 +6,7 @@ mod changes;
 mod conversion;
 mod corpus;
 mod input;
+mod reached;
 mod scope_trees;
 mod steps;
 
