@@ -13,6 +13,7 @@ mod names;
 mod night;
 mod packs;
 mod refused;
+mod rising;
 mod routes;
 mod rows;
 mod rules;
@@ -34,6 +35,7 @@ const TEXTS: &str = "texts";
 const NIGHT: &str = "night";
 const CHANGES: &str = "changes";
 const CONVERT: &str = "convert";
+const RISING: &str = "rising";
 
 struct Options {
     names: Vec<String>,
@@ -44,7 +46,7 @@ impl Options {
     fn read() -> Option<Self> {
         let (options, names): (Vec<_>, Vec<_>) =
             std::env::args().skip(1).partition(|word| word.starts_with('-'));
-        let own = [TEXTS, NIGHT, CHANGES, CONVERT];
+        let own = [TEXTS, NIGHT, CHANGES, CONVERT, RISING];
         let known = |name: &String| own.contains(&name.as_str()) || FAMILIES.iter().any(|family| family.name == *name);
         let understood = options.iter().all(|option| option == "--quick") && names.iter().all(known);
         understood.then_some(Options { names, quick: !options.is_empty() })
@@ -64,7 +66,7 @@ impl Options {
 
 fn main() -> ExitCode {
     let Some(options) = Options::read() else {
-        eprintln!("bench [FAMILY..] [--quick], a family being {NIGHT}, {TEXTS}, {CHANGES}, {CONVERT} or one of:");
+        eprintln!("bench [FAMILY..] [--quick], a family being {NIGHT}, {TEXTS}, {CHANGES}, {CONVERT}, {RISING} or one of:");
         FAMILIES.iter().for_each(|family| eprintln!("  {:<21} {}", family.name, family.about));
         return ExitCode::from(2);
     };
@@ -81,6 +83,9 @@ fn main() -> ExitCode {
     }
     if options.takes(CONVERT) {
         agreed &= convert::run(options.effort(), options.quick);
+    }
+    if options.takes(RISING) {
+        agreed &= rising::run(options.quick, options.effort());
     }
     if options.takes(TEXTS) {
         agreed &= texts::run(options.effort());

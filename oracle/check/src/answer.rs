@@ -18,6 +18,10 @@ pub enum Answer {
     Change(Changed),
     /// What the converter gave, and the output after it.
     Converted(Converted),
+    /// How many other reactions the one that is asked reaches.
+    Reached(u64),
+    /// An answer, and the lent bytes as they are after it.
+    Lent(Box<Answer>, Vec<u8>),
     /// What each step of a tally gave.
     Tally(Tallied),
     /// What was asked of scope trees gave.
@@ -40,6 +44,12 @@ impl fmt::Display for Answer {
                     Some(numbers) => refused(to, numbers)?,
                 }
                 write!(to, " | {}", lent::digits(output))
+            }
+            Answer::Reached(count) => write!(to, "reached {count}"),
+            Answer::Lent(answer, bytes) if bytes.is_empty() => write!(to, "{answer} | -"),
+            Answer::Lent(answer, bytes) => {
+                write!(to, "{answer} | ")?;
+                bytes.iter().try_for_each(|byte| write!(to, "{byte:02x}"))
             }
             Answer::Tally(tallied) => tallied.fmt(to),
             Answer::Tree(grown) => grown.fmt(to),

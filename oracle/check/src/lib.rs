@@ -1,4 +1,4 @@
-//! A case through the packing rules, boomerang's check and that of the deadlines, as one answer; a record changed; or a conversion, or a tally, or a scope tree.
+//! A case through the packing rules, boomerang's check and that of the deadlines, as one answer; or a change, a conversion, a scope tree or a tally.
 mod answer;
 pub mod change;
 mod deadlines;
@@ -10,6 +10,7 @@ pub mod night;
 mod numbers;
 pub mod owner;
 mod places;
+mod rising;
 pub mod tally;
 pub mod tree;
 pub mod worth;
@@ -26,7 +27,7 @@ use boomerang_runtime::image::{
 use enclave::Enclave;
 use identities::Identities;
 use pack::convert;
-use pack::corpus::{Case, Kind, NIGHT, FIRST_TREE, NEXT_TREE, TALLY};
+use pack::corpus::{Case, Kind, FIRST_TREE, NEXT_TREE, NIGHT, RISING, TALLY};
 use pack::layout::{ENCLAVE, FEDERATE};
 use pack::packing;
 use pack::row::Row;
@@ -50,6 +51,9 @@ pub fn answer(case: &Case) -> Answer {
         Err(fault) => Answer::Refused(std::iter::once(fault.refusal).chain(fault.number).collect()),
         Ok(()) => after_packing(case, kind),
     };
+    if case.kind == RISING || case.reaction().is_some() {
+        return rising::of(case, answer);
+    }
     if !matches!(answer, Answer::Accepted { .. }) {
         return answer;
     }

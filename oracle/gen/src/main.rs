@@ -10,6 +10,7 @@ mod identities;
 mod line;
 mod night;
 mod plan;
+mod rising;
 mod styles;
 mod tally;
 mod texts;
@@ -35,7 +36,7 @@ fn main() -> ExitCode {
         let styles: Vec<&str> = STYLES.iter().map(|style| style.name).collect();
         eprintln!("gen SEED COUNT OUT [--from N] [--only MIX]");
         eprintln!(
-            "MIX: all, station, line, packing, deadlines, large, deep, night, owner, change, convert, tally, trees, {}",
+            "MIX: all, station, line, packing, deadlines, large, deep, night, owner, change, convert, tally, trees, rising, {}",
             styles.join(", ")
         );
         return ExitCode::from(2);

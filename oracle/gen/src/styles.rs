@@ -6,7 +6,7 @@ use crate::line::{grown, Extent};
 use crate::plan::{Size, SMALL};
 use crate::rng::Rng;
 use crate::texts::Texts;
-use crate::{change, convert, faults, identities, night, tally, tiny, trees};
+use crate::{change, convert, faults, identities, night, rising, tally, tiny, trees};
 use pack::corpus::{Case, Kind, NIGHT, OWNER};
 use pack::layout::{MODES, ROUTES};
 use pack::row::{pack, Row};
@@ -56,7 +56,7 @@ pub struct Mix {
 }
 
 impl Mix {
-    /// The mix with this name: a group, a style, `large`, `deep`, `night`, `owner`, `change`, `convert`, `tally` or `trees`.
+    /// The mix with this name: a group, a style, `large`, `deep`, `night`, `owner`,, `tally` `change`, `convert`, `rising` or `trees`.
     pub fn named(name: &str) -> Option<Self> {
         let found = GROUPS.iter().find(|group| group.0 == name);
         let (names, kind) = found.map_or((vec![name], None), |group| (group.1.to_vec(), group.2));
@@ -69,12 +69,14 @@ impl Mix {
             "change" => Some(|rng, _| change::case(rng)),
             "convert" => Some(to_convert),
             "tally" => Some(|rng, _| tally::case(rng)),
+            "rising" => Some(|rng, _| rising::case(rng)),
             _ => None,
         };
         let rarities = name == "all" || name == "packing";
         let with_deadlines = match name {
             "deadlines" => 1000,
             "deep" | "change" | "convert" | "tally" | "trees" => 0,
+            "rising" => 150,
             _ => 460,
         };
         let listed: Option<fn(&mut Rng, u64) -> Case> =

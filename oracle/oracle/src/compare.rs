@@ -53,6 +53,7 @@ fn group(line: &str) -> String {
         (Some("accepted"), _) if line.split(' ').count() == 3 => "accepted (line)".into(),
         (Some("accepted"), _) => "accepted (station)".into(),
         (Some("owner"), _) => "owner of a mode".into(),
+        (Some("reached"), _) => "reactions reached".into(),
         _ => line.into(),
     }
 }

@@ -33,6 +33,8 @@ fn without_site(case: &Case, answer: &Answer) -> String {
         Answer::Owner(_) => "owner".into(),
         Answer::Change(_) => "change".into(),
         Answer::Converted(_) => "converted".into(),
+        Answer::Reached(count) => format!("reached {}", (*count).min(3)),
+        Answer::Lent(answer, _) => format!("lent, {}", without_site(case, answer)),
         Answer::Tally(_) => "tally".into(),
         Answer::Tree(_) => "scope tree".into(),
         Answer::Refused(numbers) => format!("refused {}", numbers[0]),

@@ -34,6 +34,9 @@ pub fn print(corpus: &str, number: &str) -> Done {
         None => case.mode().map_or(String::new(), |mode| format!(", the owner of mode {mode}")),
     };
     let asked = case.change().map_or(asked, |(number, row)| changed(&case, number, row));
+    let asked = case.reaction().map_or(asked, |(reaction, lent)| {
+        format!(", kind {}: what reaction {reaction} reaches, {} bytes lent", case.kind, lent.len())
+    });
     println!("case {number}: {kind}{asked}, {} bytes of pack", case.pack.len());
     println!("batch, {} bytes: {}", case.batch.len(), shown(&case.batch));
     println!("house, {} bytes: {}", case.house.len(), shown(&case.house));

@@ -12,7 +12,7 @@ use pack::names::{direction_name, field_name, kind_name, table_name};
 use pack::packing;
 use pack::row::Row;
 
-/// The name of the site; none for an answer that is no refusal, for that of a mode asked that is not there, and for the night's own, and for an output too short.
+/// The name of the site; none for an answer that is no refusal, for that of a mode asked that is not there, and for the night's own, and for an output too short, and for levels that do not rise.
 pub fn of(case: &Case, answer: &Answer) -> Option<String> {
     if let Some((kind, output)) = case.conversion() {
         return conversion_site(&case.pack, kind, output.len());
@@ -21,6 +21,9 @@ pub fn of(case: &Case, answer: &Answer) -> Option<String> {
         return None;
     };
     if case.mode().is_some() && is_of_mode_asked(numbers) || is_of_the_night(numbers) {
+        return None;
+    }
+    if numbers[0] == 32 {
         return None;
     }
     if let Err(fault) = packing::check(case, case.kind()?) {

@@ -58,7 +58,7 @@ fn table(counts: &Counts) {
 }
 
 fn group(answer: &Answer, kind: u8) -> String {
-    let name = ["station", "line", "line at night"].get(kind as usize).unwrap_or(&"unknown");
+    let name = ["station", "line", "line at night", "unknown", "rising station"].get(kind as usize).unwrap_or(&"unknown");
     match answer {
         Answer::Accepted { .. } => format!("accepted, {name}"),
         Answer::Refused(numbers) => format!("refused {:02} {}", numbers[0], refusal_of(numbers[0]).name),
@@ -68,6 +68,8 @@ fn group(answer: &Answer, kind: u8) -> String {
         Answer::Converted(Converted { refusal: Some(numbers), .. }) => {
             format!("not converted, {:02} {}", numbers[0], refusal_of(numbers[0]).name)
         }
+        Answer::Reached(_) => "reactions reached".into(),
+        Answer::Lent(answer, _) => format!("{}, bytes lent", group(answer, kind)),
         Answer::Tally(_) => "tally".into(),
         Answer::Tree(grown) => format!("scope tree: {}", grown.given),
     }
