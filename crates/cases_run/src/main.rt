@@ -1,11 +1,12 @@
 // The papers' lines tried by hand, and document 01's misreadings: packs from rows, a line for each with the check's answer;
-// lines at night, records that are changed, conversions, scope trees, and tallies.
+// lines at night, rising levels, records that are changed, conversions, scope trees, and tallies.
 #![tactic(auto)]
 
 mod changes;
 mod conversions;
 mod enclaves;
 mod federates;
+mod levels;
 mod nights;
 mod owners;
 mod parts;
@@ -22,6 +23,7 @@ fn main(rt: HostRuntime) -> Result<()> {
     nights::cases(&rt)?;
     owners::cases(&rt)?;
     conversions::cases(&rt)?;
+    levels::cases(&rt)?;
     tallies::cases(&rt)?;
     changes::cases(&rt)?;
     scope_trees::cases(&rt)

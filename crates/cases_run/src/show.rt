@@ -8,6 +8,7 @@ use federate::FederateAccepted;
 use federate::check::check_federate;
 use mode_owner::mode_owner;
 use night::check_federate_night;
+use rising::rising::{check_rising, count_reached};
 use schema::rows::FederateImage;
 use std::io;
 use std::io::Write;
@@ -50,6 +51,37 @@ pub fn show_owner(
         Ok(reactor) => println!(rt; "owner {}", reactor.0)?,
         Err(refusal) => println!(rt; "refused {refusal}")?,
     }
+    Ok(())
+}
+
+// The second check of a station, whose batch text is `abcd`.
+pub fn show_rising(rt: &HostRuntime, name: &[u8], records: &[RecordBytes]) -> Result<()> {
+    show_name(rt, name)?;
+    match check_rising(records.as_flattened(), b"abcd", b"") {
+        Ok(links) => println!(rt; "accepted {links}")?,
+        Err(refusal) => println!(rt; "refused {refusal}")?,
+    }
+    Ok(())
+}
+
+// What a reaction of a station reaches, whose batch text is `abcd`, and the lent bytes after it.
+pub fn show_reached(
+    rt: &HostRuntime,
+    name: &[u8],
+    records: &[RecordBytes],
+    reaction: u32,
+    lent: &mut [u8],
+) -> Result<()> {
+    show_name(rt, name)?;
+    match count_reached(records.as_flattened(), b"abcd", b"", reaction, lent) {
+        Ok(count) => print!(rt; "reached {count}")?,
+        Err(refusal) => print!(rt; "refused {refusal}")?,
+    }
+    print!(rt; " |")?;
+    for byte in lent {
+        print!(rt; " {byte}")?;
+    }
+    println!(rt; "")?;
     Ok(())
 }
 
