@@ -4,6 +4,7 @@ use crate::show::{show_reached, show_rising};
 use anyhow::Result;
 use cases::records::{RecordBytes, Recorded};
 use range::SliceRange;
+use rising::marks::Marks;
 use schema::entries::{LevelReactionImage, ReactionEffectPort, ReactionTrigger};
 use schema::index::{BindingKind, ReactionIndex};
 use schema::row::Row;
@@ -58,13 +59,13 @@ pub fn cases(rt: &HostRuntime) -> Result<()> {
     let rises = triggering(2, 0);
     let mut bytes = [165u8; 3];
     let name = b"what reaction 0 reaches, in bytes";
-    show_reached(rt, name, &rises, 0, &mut bytes)?;
+    show_reached(rt, name, &rises, 0, Marks::Bytes, &mut bytes)?;
     let name = b"what reaction 1 reaches";
-    show_reached(rt, name, &rises, 1, &mut bytes)?;
+    show_reached(rt, name, &rises, 1, Marks::Bytes, &mut bytes)?;
     let name = b"the reaction after the last, and no bytes";
-    show_reached(rt, name, &rises, 2, &mut [])?;
+    show_reached(rt, name, &rises, 2, Marks::Bytes, &mut [])?;
     let name = b"one byte for two reactions";
-    show_reached(rt, name, &rises, 0, &mut bytes[..1])?;
+    show_reached(rt, name, &rises, 0, Marks::Bytes, &mut bytes[..1])?;
     let name = b"levels that do not rise, and no bytes";
-    show_reached(rt, name, &triggering(1, 0), 2, &mut [])
+    show_reached(rt, name, &triggering(1, 0), 2, Marks::Bytes, &mut [])
 }

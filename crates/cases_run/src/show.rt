@@ -8,6 +8,7 @@ use federate::FederateAccepted;
 use federate::check::check_federate;
 use mode_owner::mode_owner;
 use night::check_federate_night;
+use rising::marks::Marks;
 use rising::rising::{check_rising, count_reached};
 use schema::rows::FederateImage;
 use std::io;
@@ -70,10 +71,11 @@ pub fn show_reached(
     name: &[u8],
     records: &[RecordBytes],
     reaction: u32,
+    kind: Marks,
     lent: &mut [u8],
 ) -> Result<()> {
     show_name(rt, name)?;
-    match count_reached(records.as_flattened(), b"abcd", b"", reaction, lent) {
+    match count_reached(records.as_flattened(), b"abcd", b"", reaction, kind, lent) {
         Ok(count) => print!(rt; "reached {count}")?,
         Err(refusal) => print!(rt; "refused {refusal}")?,
     }

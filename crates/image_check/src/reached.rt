@@ -5,6 +5,7 @@ ghost use Rattle.rising.specs.Answer.{reach_answer, scratch_after};
 ghost use Rattle.image_check.specs.Answered.{Answered};
 
 use crate::put;
+use rising::marks::Marks;
 use rising::rising::{check_rising, count_reached};
 
 // The answer of the second check: 0 and the links, or the refusal's numbers. The result is how many of `numbers` hold it.
@@ -28,13 +29,14 @@ pub fn count_reached_in_image<'a>(
     batch: &'a [u8],
     house: &'a [u8],
     reaction: u32,
+    kind: Marks,
     scratch: &mut [u8],
     numbers: &mut [u64; 8],
 ) -> u32
-    ensures answer { Answered (reach_answer pack.now batch.now house.now reaction scratch.old) result numbers.new }
-    ensures scratch { scratch.new ≡ scratch_after pack.now batch.now house.now reaction scratch.old }
+    ensures answer { Answered (reach_answer kind pack.now batch.now house.now reaction scratch.old) result numbers.new }
+    ensures scratch { scratch.new ≡ scratch_after kind pack.now batch.now house.now reaction scratch.old }
 {
-    match count_reached(pack, batch, house, reaction, scratch) {
+    match count_reached(pack, batch, house, reaction, kind, scratch) {
         Ok(count) => put(&[0, u64::from(count)], numbers),
         Err(refusal) => put(refusal.numbers().as_slice(), numbers),
     }

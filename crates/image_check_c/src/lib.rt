@@ -9,6 +9,7 @@ ghost use Rattle.night.specs.Night.{night_answer};
 ghost use Rattle.mode_owner.specs.Owner.{owner_answer};
 ghost use Rattle.change.specs.Change.{change_answer, pack_after};
 ghost use Rattle.convert.specs.Convert.{convert_checks, output_after};
+ghost use Rattle.rising.specs.declared.marks.Marks.TheVariants.{Bytes};
 ghost use Rattle.rising.specs.Rising.{rising_answer};
 ghost use Rattle.rising.specs.Answer.{reach_answer, scratch_after};
 ghost use Rattle.tally.specs.declared.LineResult.TheVariants.{Accepted, Refused};
@@ -21,6 +22,7 @@ ghost use Rattle.image_check.specs.ScopeTrees.{first_numbers, next_numbers};
 
 use image_check::{changes, conversions, reached, scope_trees, tallies};
 use packing::PackKind;
+use rising::marks::Marks;
 
 // The answer for an enclave pack and its two texts; the result is how many of `numbers` hold it.
 #[unsafe(no_mangle)]
@@ -155,10 +157,10 @@ pub extern "C" fn reached_in_bytes_of_image<'a>(
     scratch: &mut [u8],
     numbers: &mut [u64; 8],
 ) -> u32
-    ensures answer { Answered (reach_answer pack.now batch.now house.now reaction scratch.old) result numbers.new }
-    ensures scratch { scratch.new ≡ scratch_after pack.now batch.now house.now reaction scratch.old }
+    ensures answer { Answered (reach_answer Bytes pack.now batch.now house.now reaction scratch.old) result numbers.new }
+    ensures scratch { scratch.new ≡ scratch_after Bytes pack.now batch.now house.now reaction scratch.old }
 {
-    reached::count_reached_in_image(pack, batch, house, reaction, scratch, numbers)
+    reached::count_reached_in_image(pack, batch, house, reaction, Marks::Bytes, scratch, numbers)
 }
 
 // Adds an accepted answer to a tally, with its links; the result is how many of `numbers` hold the answer.

@@ -10,6 +10,7 @@ use crate::reached::{ReachedCase, reached_answer, read_reached};
 use crate::scope_trees::{TreeCase, Wanted, read_tree, tree_answer};
 use crate::steps::{TallyCase, read_step, read_tally, step_answer};
 use arrayvec::ArrayVec;
+use rising::marks::Marks;
 use std::io;
 use std::io::{BufRead, Write};
 
@@ -115,7 +116,7 @@ fn answer_case<R: BufRead, W: Write>(
 ) -> Result<(), ReadError> {
     let added = match kind {
         REACHED_BYTES => {
-            let case = read_reached(input, room)?;
+            let case = read_reached(Marks::Bytes, input, room)?;
             add_reached(output, lines, case)
         }
         CHANGE | PREVIEW => {

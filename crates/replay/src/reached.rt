@@ -1,12 +1,14 @@
 // The case of what a reaction reaches: the lent bytes are marked, and stand on the line as they then are.
 use crate::answer::Answer;
 use crate::input::{ReadError, Room, read_lent, read_u32, take};
+use rising::marks::Marks;
 use rising::rising::count_reached;
 use std::io::Read;
 
-// The lent parts, the reaction's number, and the bytes for the marks.
+// How the marks stand; the lent parts, the reaction's number, and the bytes for the marks.
 #[derive(Drop)]
 pub struct ReachedCase<'a> {
+    pub kind: Marks,
     pub pack: &'a [u8],
     pub batch: &'a [u8],
     pub house: &'a [u8],
@@ -16,6 +18,7 @@ pub struct ReachedCase<'a> {
 
 // Takes what follows the first byte of such a case.
 pub fn read_reached<'a, R: Read>(
+    kind: Marks,
     input: &mut R,
     room: &'a mut Room,
 ) -> Result<ReachedCase<'a>, ReadError> {
@@ -34,6 +37,7 @@ pub fn read_reached<'a, R: Read>(
     let reaction = read_u32(input)?;
     let len = read_lent(input, lent)?;
     Ok(ReachedCase {
+        kind,
         pack,
         batch,
         house,
@@ -46,5 +50,5 @@ pub fn read_reached<'a, R: Read>(
 pub fn reached_answer(case: &mut ReachedCase) -> Answer {
     let scratch = &mut *case.scratch;
     let (pack, batch, house) = (case.pack, case.batch, case.house);
-    Answer::Reached(count_reached(pack, batch, house, case.reaction, scratch))
+    Answer::Reached(count_reached(pack, batch, house, case.reaction, case.kind, scratch))
 }

@@ -25,9 +25,10 @@ use Rattle.scope_checks.specs.Links.{links}
 use Rattle.enclave.specs.Passes.{enclave_checks}
 use Rattle.enclave.specs.Answer.{unless, left_by, image_answer, pack_image, enclave_answer}
 use Rattle.enclave.proofs.Accepted.{no_refusal, accepted_packed, accepted_checks, accepted_links}
+use Rattle.rising.specs.declared.marks.Marks.{Marks}
 use Rattle.rising.specs.Rising.{rising_checks, station_checks, rising_answer, LevelsRise}
 use Rattle.rising.specs.Reach.{others}
-use Rattle.rising.specs.Marks.{marked}
+use Rattle.rising.specs.Marks.{room, mark_of, marked}
 use Rattle.rising.specs.Answer.{asked_checks, reach_count, image_reach, image_scratch, reach_checks, reach_answer, scratch_after}
 use Rattle.rising.specs.Claims.{YesRises, MarksTell}
 use Rattle.rising.proofs.Closure.{others_exactly}
@@ -49,35 +50,35 @@ left_refused xs ys ns found old r e = go (first xs) refl e
     go (Ok u) w z = let h : 0 ≡ get_or (numbers r) 0 0 = ap (λ zs. get_or zs 0 0) z in absurd (omega (arith, number-positive r))
 
 -- ---- what is asked of an image
-module _ (m : Image) (r : ℕ) (scratch : List ℕ) where
+module _ (k : Marks) (m : Image) (r : ℕ) (scratch : List ℕ) where
   abbrev pub reaction_there : List Check
   reaction_there = ref_to m.rows 5 0 field.Reaction 5 r ∷ []
 
   abbrev long_enough : List Check
-  long_enough = need (leb (m.rows 5) (length scratch)) ScratchTooShort ∷ []
+  long_enough = need (leb (room k (m.rows 5)) (length scratch)) ScratchTooShort ∷ []
 
-  pub no_reaction : {x : Refusal} → first reaction_there ≡ Err x → (image_reach m r scratch ≡ numbers x) × (image_scratch m r scratch ≡ scratch)
+  pub no_reaction : {x : Refusal} → first reaction_there ≡ Err x → (image_reach k m r scratch ≡ numbers x) × (image_scratch k m r scratch ≡ scratch)
   no_reaction e = let s = first_stops reaction_there long_enough e in (rw s refl, rw s refl)
 
   module _ (e : first reaction_there ≡ passed) where
-    past : first (asked_checks m r scratch) ≡ first long_enough
+    past : first (asked_checks k m r scratch) ≡ first long_enough
     past = first_past reaction_there long_enough e
 
     pub there_is : r < m.rows 5
     there_is = below {cs = []} (record { is = e })
 
-    pub too_short : length scratch < m.rows 5 → (image_reach m r scratch ≡ numbers ScratchTooShort) × (image_scratch m r scratch ≡ scratch)
+    pub too_short : length scratch < room k (m.rows 5) → (image_reach k m r scratch ≡ numbers ScratchTooShort) × (image_scratch k m r scratch ≡ scratch)
     unfolding first
     too_short l =
-        let s : first (asked_checks m r scratch) ≡ Err ScratchTooShort = past ∙ rw (lt-leb (m.rows 5) (length scratch) l) refl in
+        let s : first (asked_checks k m r scratch) ≡ Err ScratchTooShort = past ∙ rw (lt-leb (room k (m.rows 5)) (length scratch) l) refl in
         (rw s refl, rw s refl)
 
     pub room_there :
-        m.rows 5 ≤ length scratch
-        → (image_reach m r scratch ≡ 0 ∷ reach_count m r ∷ []) × (image_scratch m r scratch ≡ marked (others m r) (m.rows 5) scratch)
+        room k (m.rows 5) ≤ length scratch
+        → (image_reach k m r scratch ≡ 0 ∷ reach_count m r ∷ []) × (image_scratch k m r scratch ≡ marked k (others m r) (m.rows 5) scratch)
     unfolding first
     room_there l =
-        let s : first (asked_checks m r scratch) ≡ passed = past ∙ rw (le-leb (m.rows 5) (length scratch) l) refl in
+        let s : first (asked_checks k m r scratch) ≡ passed = past ∙ rw (le-leb (room k (m.rows 5)) (length scratch) l) refl in
         (rw s refl, rw s refl)
 
 -- ---- of a pack
@@ -139,27 +140,27 @@ module _ (p batch house : List ℕ) where
     first_yes = rw (station_parts.0, station_parts.1.accepted) refl
 
     -- so the question is left
-    reach_left : (r : ℕ) (scratch : List ℕ) → first (reach_checks p batch house r scratch) ≡ first (asked_checks m r scratch)
+    reach_left : (k : Marks) (r : ℕ) (scratch : List ℕ) → first (reach_checks k p batch house r scratch) ≡ first (asked_checks k m r scratch)
     unfolding reach_checks
-    reach_left r scratch = first_past (station_checks p batch house) _ h
+    reach_left k r scratch = first_past (station_checks p batch house) _ h
 
-    pub reach_is : (r : ℕ) (scratch : List ℕ) → reach_answer p batch house r scratch ≡ image_reach m r scratch
+    pub reach_is : (k : Marks) (r : ℕ) (scratch : List ℕ) → reach_answer k p batch house r scratch ≡ image_reach k m r scratch
     unfolding reach_answer
-    reach_is r scratch = rw (reach_left r scratch) refl
+    reach_is k r scratch = rw (reach_left k r scratch) refl
 
-    pub scratch_is : (r : ℕ) (scratch : List ℕ) → scratch_after p batch house r scratch ≡ image_scratch m r scratch
+    pub scratch_is : (k : Marks) (r : ℕ) (scratch : List ℕ) → scratch_after k p batch house r scratch ≡ image_scratch k m r scratch
     unfolding scratch_after
-    scratch_is r scratch = rw (reach_left r scratch) refl
+    scratch_is k r scratch = rw (reach_left k r scratch) refl
 
   -- the second check refuses
-  module _ (r : ℕ) (scratch : List ℕ) (q : Refusal) (h : rising_answer p batch house ≡ numbers q) where
-    pub reach_refused : reach_answer p batch house r scratch ≡ numbers q
+  module _ (k : Marks) (r : ℕ) (scratch : List ℕ) (q : Refusal) (h : rising_answer p batch house ≡ numbers q) where
+    pub reach_refused : reach_answer k p batch house r scratch ≡ numbers q
     unfolding reach_answer reach_checks rising_answer
-    reach_refused = after_refused (station_checks p batch house) (asked_checks m r scratch) (links m ∷ []) (0 ∷ reach_count m r ∷ []) q h
+    reach_refused = after_refused (station_checks p batch house) (asked_checks k m r scratch) (links m ∷ []) (0 ∷ reach_count m r ∷ []) q h
 
-    pub scratch_stays : scratch_after p batch house r scratch ≡ scratch
+    pub scratch_stays : scratch_after k p batch house r scratch ≡ scratch
     unfolding scratch_after reach_checks rising_answer
-    scratch_stays = left_refused (station_checks p batch house) (asked_checks m r scratch) (links m ∷ []) (marked (others m r) (m.rows 5) scratch) scratch q h
+    scratch_stays = left_refused (station_checks p batch house) (asked_checks k m r scratch) (links m ∷ []) (marked k (others m r) (m.rows 5) scratch) scratch q h
 
 pub yes_rises : YesRises
 yes_rises p batch house c h =
@@ -168,17 +169,17 @@ yes_rises p batch house c h =
     (first_yes p batch house s ∙ rw e refl, levels_rise p batch house s)
 
 -- ---- an answer to the question
-module _ (p batch house : List ℕ) (r : ℕ) (scratch : List ℕ) (n : ℕ) (h : reach_answer p batch house r scratch ≡ 0 ∷ n ∷ []) where
+module _ (k : Marks) (p batch house : List ℕ) (r : ℕ) (scratch : List ℕ) (n : ℕ) (h : reach_answer k p batch house r scratch ≡ 0 ∷ n ∷ []) where
   abbrev im : Image
   im = pack_image p batch house
 
-  reach_passed : first (reach_checks p batch house r scratch) ≡ passed
+  reach_passed : first (reach_checks k p batch house r scratch) ≡ passed
   unfolding reach_answer
-  reach_passed = (no_refusal (first (reach_checks p batch house r scratch)) (0 ∷ reach_count im r ∷ []) (n ∷ []) h).0
+  reach_passed = (no_refusal (first (reach_checks k p batch house r scratch)) (0 ∷ reach_count im r ∷ []) (n ∷ []) h).0
 
-  asked_parts : (first (station_checks p batch house) ≡ passed) × Passes (asked_checks im r scratch)
+  asked_parts : (first (station_checks p batch house) ≡ passed) × Passes (asked_checks k im r scratch)
   unfolding reach_checks
-  asked_parts = let x = parts (station_checks p batch house) (asked_checks im r scratch) (record { is = reach_passed }) in (x.0.is, x.1)
+  asked_parts = let x = parts (station_checks p batch house) (asked_checks k im r scratch) (record { is = reach_passed }) in (x.0.is, x.1)
 
   pub asked_there : r < im.rows 5
   asked_there = below asked_parts.1
@@ -186,12 +187,12 @@ module _ (p batch house : List ℕ) (r : ℕ) (scratch : List ℕ) (n : ℕ) (h 
   pub asked_rises : LevelsRise im
   asked_rises = levels_rise p batch house asked_parts.0
 
-  pub after_is : scratch_after p batch house r scratch ≡ marked (others im r) (im.rows 5) scratch
+  pub after_is : scratch_after k p batch house r scratch ≡ marked k (others im r) (im.rows 5) scratch
   unfolding scratch_after
   after_is = rw reach_passed refl
 
-  pub mark_after : (u : ℕ) → u < im.rows 5 → get_or (scratch_after p batch house r scratch) u 0 ≡ bit (others im r u)
-  mark_after u l = ap (λ xs. get_or xs u 0) after_is ∙ mark_tells (others im r) (im.rows 5) scratch u l
+  pub mark_after : (u : ℕ) → u < im.rows 5 → mark_of k (scratch_after k p batch house r scratch) u ≡ bit (others im r u)
+  mark_after u l = ap (λ xs. mark_of k xs u) after_is ∙ mark_tells (others im r) (im.rows 5) scratch u l k
 
 one_is : (b : Bool) → (bit b ≡ 1) ↔ (b ≡ true)
 one_is true = ((λ e. refl), (λ e. refl))
@@ -202,15 +203,15 @@ zero_is true = ((λ e. absurd (omega arith)), (λ n. absurd (n refl)))
 zero_is false = ((λ e x. true≢false (sym x)), (λ n. refl))
 
 pub marks_tell : MarksTell
-marks_tell p batch house r scratch n h = (
-  asked_rises p batch house r scratch n h,
-  asked_there p batch house r scratch n h,
+marks_tell k p batch house r scratch n h = (
+  asked_rises k p batch house r scratch n h,
+  asked_there k p batch house r scratch n h,
   (λ u l.
-      let x = mark_after p batch house r scratch n h u l in
-      let y = others_exactly (pack_image p batch house) (asked_rises p batch house r scratch n h) r u (asked_there p batch house r scratch n h) in
+      let x = mark_after k p batch house r scratch n h u l in
+      let y = others_exactly (pack_image p batch house) (asked_rises k p batch house r scratch n h) r u (asked_there k p batch house r scratch n h) in
       ((λ e. y.0 ((one_is _).0 (sym x ∙ e))), (λ w. x ∙ (one_is _).1 (y.1 w)))),
   (λ u l.
-      let x = mark_after p batch house r scratch n h u l in
-      let y = others_exactly (pack_image p batch house) (asked_rises p batch house r scratch n h) r u (asked_there p batch house r scratch n h) in
+      let x = mark_after k p batch house r scratch n h u l in
+      let y = others_exactly (pack_image p batch house) (asked_rises k p batch house r scratch n h) r u (asked_there k p batch house r scratch n h) in
       ((λ e w. (zero_is _).0 (sym x ∙ e) (y.1 w)), (λ f. x ∙ (zero_is _).1 (λ t. f (y.0 t))))),
 )

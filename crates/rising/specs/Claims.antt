@@ -1,9 +1,11 @@
 -- What is promised of levels that rise and of what a reaction reaches. Assumes nothing.
-use Rattle.std.specs.Prelude.{ℕ, ◌<◌, ◌≡◌, ◌↔◌, true, List, [], ◌∷◌, get_or}
+use Rattle.std.specs.Prelude.{ℕ, ◌<◌, ◌≡◌, ◌↔◌, true, List, [], ◌∷◌}
 use Rattle.checks.specs.Image.{Image}
 use Rattle.enclave.specs.Answer.{pack_image, enclave_answer}
+use Rattle.rising.specs.declared.marks.Marks.{Marks}
 use Rattle.rising.specs.Rising.{stands_on, rising_answer, LevelsRise}
 use Rattle.rising.specs.Reach.{Triggers, Reaches, others}
+use Rattle.rising.specs.Marks.{mark_of}
 use Rattle.rising.specs.Answer.{reach_answer, scratch_after}
 
 -- a yes of the second station check is the first's, with the same links, of an image whose levels rise
@@ -27,13 +29,13 @@ NeverItself = (m : Image) → LevelsRise m → (r : ℕ) → r < m.rows 5 → Re
 abbrev pub ReachedIsClosure : Type 0
 ReachedIsClosure = (m : Image) → LevelsRise m → (r u : ℕ) → r < m.rows 5 → (others m r u ≡ true) ↔ Reaches m r u
 
--- an answer to the question with 0 before it is one of a reaction that is there, in an image whose levels rise; then the byte of
+-- an answer to the question with 0 before it is one of a reaction that is there, in an image whose levels rise; then the mark of
 -- each reaction is 1 exactly where it is reached, and else 0
 abbrev pub MarksTell : Type 0
 MarksTell =
-    (p batch house : List ℕ) (r : ℕ) (scratch : List ℕ) (n : ℕ)
-    → reach_answer p batch house r scratch ≡ 0 ∷ n ∷ []
-    → let m = pack_image p batch house in let after = scratch_after p batch house r scratch in
+    (k : Marks) (p batch house : List ℕ) (r : ℕ) (scratch : List ℕ) (n : ℕ)
+    → reach_answer k p batch house r scratch ≡ 0 ∷ n ∷ []
+    → let m = pack_image p batch house in let after = scratch_after k p batch house r scratch in
     LevelsRise m × (r < m.rows 5)
-    × ((u : ℕ) → u < m.rows 5 → (get_or after u 0 ≡ 1) ↔ Reaches m r u)
-    × ((u : ℕ) → u < m.rows 5 → (get_or after u 0 ≡ 0) ↔ (Reaches m r u → ⊥))
+    × ((u : ℕ) → u < m.rows 5 → (mark_of k after u ≡ 1) ↔ Reaches m r u)
+    × ((u : ℕ) → u < m.rows 5 → (mark_of k after u ≡ 0) ↔ (Reaches m r u → ⊥))

@@ -1,4 +1,4 @@
-// Marks: of reactions in lent bytes, a byte each, and of ports in the walk's own, a bit each. What else knows of them asks these functions.
+// Marks of reactions, or of ports, in lent bytes: a byte or a bit each. What else knows of them asks these functions.
 ghost use Rattle.std.specs.Prelude.{◌≡◌, ◌+◌, ◌≤◌, ◌<◌, length};
 ghost use Rattle.schema.specs.Records.{count_below};
 ghost use Rattle.rising.specs.Marks.{room, is_marked, set_mark};
@@ -14,6 +14,16 @@ pub enum Marks {
 }
 
 impl Marks {
+    // How many bytes the marks of n items need.
+    pub fn room(self, n: u32) -> usize
+        ensures { result ≡ room self n }
+    {
+        match self {
+            Marks::Bytes => n as usize,
+            Marks::Bits => (n as usize).div_ceil(8),
+        }
+    }
+
     // Whether item i is marked.
     pub fn is_marked(self, marks: &[u8], i: u32) -> bool
         requires { room self (i + 1) ≤ length marks.now }

@@ -2,6 +2,7 @@
 ghost use Rattle.std.specs.Prelude.{◌≡◌, ◌≤◌, ◌<◌, length, IsOk};
 ghost use Rattle.checks.specs.Image.{image_of};
 ghost use Rattle.rising.specs.Rising.{LevelsRise};
+ghost use Rattle.rising.specs.Marks.{room};
 ghost use Rattle.rising.specs.Walk.{Counted};
 
 use crate::marks::{Marks, clear};
@@ -16,15 +17,15 @@ const PORT_BYTES: usize = 8192;
 
 // The count, with the marks of what is reached left in the first of the lent bytes.
 #[inline(never)]
-pub fn count_from(e: &Enclave, scratch: &mut [u8], reaction: ReactionIndex) -> u32
+pub fn count_from(e: &Enclave, kind: Marks, scratch: &mut [u8], reaction: ReactionIndex) -> u32
     requires rises { LevelsRise (image_of e.now) }
     requires there { reaction.0 < (image_of e.now).rows 5 }
-    requires fits { (image_of e.now).rows 5 ≤ length scratch.old }
+    requires fits { room kind ((image_of e.now).rows 5) ≤ length scratch.old }
     requires few { (image_of e.now).rows 4 ≤ 65536 }
-    ensures { Counted (image_of e.now) reaction.0 result scratch.old scratch.new }
+    ensures { Counted (image_of e.now) kind reaction.0 result scratch.old scratch.new }
 {
     let reactions = e.rows(ReactionImage::TABLE);
-    clear(scratch, reactions as usize);
-    by_reaction(e, scratch, &mut [0; PORT_BYTES], reaction);
-    Marks::Bytes.count(scratch, reactions)
+    clear(scratch, kind.room(reactions));
+    by_reaction(e, kind, scratch, &mut [0; PORT_BYTES], reaction);
+    kind.count(scratch, reactions)
 }

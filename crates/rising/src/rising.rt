@@ -7,6 +7,7 @@ ghost use Rattle.rising.specs.Rising.{LevelsRise, rising_answer};
 ghost use Rattle.rising.specs.Answer.{image_reach, image_scratch, reach_answer, scratch_after};
 
 use crate::levels::check_levels;
+use crate::marks::Marks;
 use crate::reach::count_from;
 use answers::{Field, Refusal, RowField};
 use checks::refs::check_exists;
@@ -43,11 +44,16 @@ pub fn check_rising(pack: &[u8], batch: &[u8], house: &[u8]) -> Result<u64, Refu
 }
 
 // What is asked of an enclave whose levels rise.
-fn count_in(e: &Enclave, scratch: &mut [u8], reaction: ReactionIndex) -> Result<u32, Refusal>
+fn count_in(
+    e: &Enclave,
+    kind: Marks,
+    scratch: &mut [u8],
+    reaction: ReactionIndex,
+) -> Result<u32, Refusal>
     requires rises { LevelsRise (image_of e.now) }
     requires few { (image_of e.now).rows 4 ≤ 65536 }
-    ensures answer { answer_numbers result ≡ image_reach (image_of e.now) reaction.0 scratch.old }
-    ensures scratch { scratch.new ≡ image_scratch (image_of e.now) reaction.0 scratch.old }
+    ensures answer { answer_numbers result ≡ image_reach kind (image_of e.now) reaction.0 scratch.old }
+    ensures scratch { scratch.new ≡ image_scratch kind (image_of e.now) reaction.0 scratch.old }
 {
     let at = RowField {
         table: ReactionImage::TABLE,
@@ -55,10 +61,10 @@ fn count_in(e: &Enclave, scratch: &mut [u8], reaction: ReactionIndex) -> Result<
         field: Field::Reaction,
     };
     check_exists(e.starts, at, reaction)?;
-    if scratch.len() < e.rows(ReactionImage::TABLE) as usize {
+    if scratch.len() < kind.room(e.rows(ReactionImage::TABLE)) {
         return Err(Refusal::ScratchTooShort);
     }
-    Ok(count_from(e, scratch, reaction))
+    Ok(count_from(e, kind, scratch, reaction))
 }
 
 // How many other reactions one reaches, in a pack that the second check accepts; the first bytes of `scratch` then mark them.
@@ -67,16 +73,18 @@ pub fn count_reached(
     batch: &[u8],
     house: &[u8],
     reaction: u32,
+    kind: Marks,
     scratch: &mut [u8],
 ) -> Result<u32, Refusal>
-    ensures answer { answer_numbers result ≡ reach_answer pack.now batch.now house.now reaction scratch.old }
-    ensures scratch { scratch.new ≡ scratch_after pack.now batch.now house.now reaction scratch.old }
+    ensures answer { answer_numbers result ≡ reach_answer kind pack.now batch.now house.now reaction scratch.old }
+    ensures scratch { scratch.new ≡ scratch_after kind pack.now batch.now house.now reaction scratch.old }
 {
     let mut starts = TableStarts::none();
     check_rising_starts(pack, batch, house, &mut starts)?;
     let texts = Texts { batch, house };
     count_in(
         &enclave(Pack { bytes: pack }, &starts, texts),
+        kind,
         scratch,
         ReactionIndex::new(reaction),
     )

@@ -12,26 +12,32 @@ use schema::lent::Enclave;
 
 // Enters each port that a reaction has effects on.
 #[cycle(walk)]
-pub fn by_reaction(e: &Enclave, marks: &mut [u8], ports: &mut [u8], reaction: ReactionIndex)
-    requires ready { Ready (image_of e.now) marks.old ports.old }
+pub fn by_reaction(
+    e: &Enclave,
+    kind: Marks,
+    marks: &mut [u8],
+    ports: &mut [u8],
+    reaction: ReactionIndex,
+)
+    requires ready { Ready (image_of e.now) kind marks.old ports.old }
     requires there { reaction.0 < (image_of e.now).rows 5 }
-    ensures { let m = image_of e.now in FromReaction m reaction.0 (effects_of m reaction.0) marks.old marks.new ports.old ports.new }
+    ensures { let m = image_of e.now in FromReaction m kind reaction.0 (effects_of m reaction.0) marks.old marks.new ports.old ports.new }
 {
     let SliceRange { start, len } = e.row(reaction).effect_ports;
     for k in 0..len {
         let port = e
             .row_at::<ReactionEffectPort>(start as usize + k as usize)
             .holds;
-        by_port(e, marks, ports, port);
+        by_port(e, kind, marks, ports, port);
     }
 }
 
 // Marks each reaction that a port triggers, and goes on from those that were not marked; once for each port, since many reactions may share one.
 #[cycle(walk)]
-fn by_port(e: &Enclave, marks: &mut [u8], ports: &mut [u8], port: PortIndex)
-    requires ready { Ready (image_of e.now) marks.old ports.old }
+fn by_port(e: &Enclave, kind: Marks, marks: &mut [u8], ports: &mut [u8], port: PortIndex)
+    requires ready { Ready (image_of e.now) kind marks.old ports.old }
     requires there { port.0 < (image_of e.now).rows 4 }
-    ensures { Entered (image_of e.now) port.0 marks.old marks.new ports.old ports.new }
+    ensures { Entered (image_of e.now) kind port.0 marks.old marks.new ports.old ports.new }
 {
     if Marks::Bits.is_marked(ports, port.0) {
         return;
@@ -43,10 +49,10 @@ fn by_port(e: &Enclave, marks: &mut [u8], ports: &mut [u8], port: PortIndex)
             .row_at::<ReactionTrigger>(start as usize + j as usize)
             .holds
             .reaction;
-        if Marks::Bytes.is_marked(marks, target.0) {
+        if kind.is_marked(marks, target.0) {
             continue;
         }
-        Marks::Bytes.mark(marks, target.0);
-        by_reaction(e, marks, ports, target);
+        kind.mark(marks, target.0);
+        by_reaction(e, kind, marks, ports, target);
     }
 }

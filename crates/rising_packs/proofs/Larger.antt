@@ -21,6 +21,7 @@ use Rattle.larger_bounds.specs.Packs.{DifferInStorage, NoBoundSmaller, SlotAnswe
 use Rattle.larger_bounds.proofs.SamePacks.{same_tables, image-same}
 use Rattle.larger_bounds.proofs.PacksLarger.{pack-looser, pack-links}
 use Rattle.rising.specs.Rising.{rising_checks, station_checks, rising_answer}
+use Rattle.rising.specs.declared.marks.Marks.{Marks}
 use Rattle.rising.specs.Answer.{asked_checks, reach_count, reach_checks, reach_answer}
 use Rattle.rising_packs.specs.Packs.{RisingAnswerStays, ReachAnswerStays}
 use Rattle.rising_packs.proofs.Same.{SameTriggers}
@@ -103,17 +104,17 @@ module _ (p q batch house : List ℕ) (h : Packed Enclave p batch house) (d : Di
   unfolding rising_answer
   rising_slot r = slot_numbers (0 ∷ links m ∷ []) (station_checks p batch house) (slot_station r)
 
-  reach_slot : (r : ℕ) (scratch : List ℕ) → SlotRefusal (first (enclave_checks m)) → SlotAnswer (reach_answer p batch house r scratch)
+  reach_slot : (k : Marks) (r : ℕ) (scratch : List ℕ) → SlotRefusal (first (enclave_checks m)) → SlotAnswer (reach_answer k p batch house r scratch)
   unfolding reach_answer reach_checks
-  reach_slot r scratch e =
-      slot_numbers (0 ∷ reach_count m r ∷ []) (station_checks p batch house ++ asked_checks m r scratch)
-      (slot_before (station_checks p batch house) (asked_checks m r scratch) (slot_station e))
+  reach_slot k r scratch e =
+      slot_numbers (0 ∷ reach_count m r ∷ []) (station_checks p batch house ++ asked_checks k m r scratch)
+      (slot_before (station_checks p batch house) (asked_checks k m r scratch) (slot_station e))
 
 pub rising_answer_stays : RisingAnswerStays
 rising_answer_stays p q batch house h k d b o =
     rising_same p q batch house h k (twins p q batch house h d b (λ r. o (rising_slot p q batch house h d r)))
 
 pub reach_answer_stays : ReachAnswerStays
-reach_answer_stays p q batch house h k d b r scratch o =
-    let t = twins p q batch house h d b (λ e. o (reach_slot p q batch house h d r scratch e)) in
-    (reach_same p q batch house h k t r scratch, scratch_same p q batch house h k t r scratch)
+reach_answer_stays p q batch house h k d b kind r scratch o =
+    let t = twins p q batch house h d b (λ e. o (reach_slot p q batch house h d kind r scratch e)) in
+    (reach_same p q batch house h k t kind r scratch, scratch_same p q batch house h k t kind r scratch)

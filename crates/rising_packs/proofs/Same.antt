@@ -7,6 +7,7 @@ use native.Mathlib.Omega.{arith}
 use lib.Dec.{eqb}
 use Rattle.answers.proofs.Alike.{Alike, alike_same, alike_run}
 use Rattle.checks.specs.Image.{Image}
+use Rattle.rising.specs.declared.marks.Marks.{Marks}
 use Rattle.rising.specs.Rising.{stands_on, effects_of, port_of, triggers_of, target_of, trigger_rising, port_rising, reaction_rising, rising_checks}
 use Rattle.rising.specs.Reach.{some_below, reached_in, others}
 use Rattle.rising.specs.Marks.{marked}
@@ -74,8 +75,8 @@ module _ (m n : Image) (s : SameTriggers m n) (w : Settled m) where
   pub count_is : (r : ℕ) → r < m.rows 5 → reach_count n r ≡ reach_count m r
   count_is r l = rw s.rows (count_same (others n r) (others m r) (m.rows 5) (others_same r l))
 
-  pub marks_are : (r : ℕ) (xs : List ℕ) → r < m.rows 5 → marked (others n r) (n.rows 5) xs ≡ marked (others m r) (m.rows 5) xs
-  marks_are r xs l = rw s.rows (marked_same (others n r) (others m r) (m.rows 5) xs (others_same r l))
+  pub marks_are : (k : Marks) (r : ℕ) (xs : List ℕ) → r < m.rows 5 → marked k (others n r) (n.rows 5) xs ≡ marked k (others m r) (m.rows 5) xs
+  marks_are k r xs l = rw s.rows (marked_same (others n r) (others m r) (m.rows 5) xs (others_same r l) k)
 
-  pub asked_alike : (r : ℕ) (xs : List ℕ) → Alike (asked_checks m r xs) (asked_checks n r xs)
-  asked_alike r xs = rw s.rows (alike_same _)
+  pub asked_alike : (k : Marks) (r : ℕ) (xs : List ℕ) → Alike (asked_checks k m r xs) (asked_checks k n r xs)
+  asked_alike k r xs = rw s.rows (alike_same _)

@@ -13,6 +13,7 @@ use Rattle.checks.specs.Image.{Image}
 use Rattle.scope_checks.specs.Links.{links}
 use Rattle.enclave.specs.Passes.{enclave_checks}
 use Rattle.enclave.specs.Answer.{unless, left_by, pack_image}
+use Rattle.rising.specs.declared.marks.Marks.{Marks}
 use Rattle.rising.specs.Rising.{rising_checks, station_checks, rising_answer, LevelsRise}
 use Rattle.rising.specs.Reach.{others}
 use Rattle.rising.specs.Marks.{marked}
@@ -54,36 +55,36 @@ module _ (p q batch house : List ℕ) (h : Packed Enclave p batch house) (k : Pa
       go (Ok u) e = rw (t.links (levels_rise p batch house e).accepted) refl
       go (Err r) e = refl
 
-  module _ (r : ℕ) (scratch : List ℕ) where
-    all_alike : Alike (reach_checks p batch house r scratch) (reach_checks q batch house r scratch)
+  module _ (kind : Marks) (r : ℕ) (scratch : List ℕ) where
+    all_alike : Alike (reach_checks kind p batch house r scratch) (reach_checks kind q batch house r scratch)
     unfolding reach_checks
     all_alike =
         alike_append station_alike
-        (λ e. let a = (levels_rise p batch house e.is).accepted in asked_alike m n (t.triggers a) (settled m a) r scratch)
+        (λ e. let a = (levels_rise p batch house e.is).accepted in asked_alike m n (t.triggers a) (settled m a) kind r scratch)
 
     -- where all pass, the image is accepted and has the reaction
-    known : first (reach_checks p batch house r scratch) ≡ passed → LevelsRise m × (r < m.rows 5)
+    known : first (reach_checks kind p batch house r scratch) ≡ passed → LevelsRise m × (r < m.rows 5)
     unfolding reach_checks
     known e =
-        let x = parts (station_checks p batch house) (asked_checks m r scratch) (record { is = e }) in
+        let x = parts (station_checks p batch house) (asked_checks kind m r scratch) (record { is = e }) in
         (levels_rise p batch house x.0.is, below x.1)
 
-    pub reach_same : reach_answer q batch house r scratch ≡ reach_answer p batch house r scratch
+    pub reach_same : reach_answer kind q batch house r scratch ≡ reach_answer kind p batch house r scratch
     unfolding reach_answer
-    reach_same = rw all_alike.is (go (first (reach_checks p batch house r scratch)) refl)
+    reach_same = rw all_alike.is (go (first (reach_checks kind p batch house r scratch)) refl)
       where
         go :
-            (o : Outcome) → first (reach_checks p batch house r scratch) ≡ o
+            (o : Outcome) → first (reach_checks kind p batch house r scratch) ≡ o
             → unless o (0 ∷ reach_count n r ∷ []) ≡ unless o (0 ∷ reach_count m r ∷ [])
         go (Ok u) e = let x = known e in rw (count_is m n (t.triggers x.0.accepted) (settled m x.0.accepted) r x.1) refl
         go (Err f) e = refl
 
-    pub scratch_same : scratch_after q batch house r scratch ≡ scratch_after p batch house r scratch
+    pub scratch_same : scratch_after kind q batch house r scratch ≡ scratch_after kind p batch house r scratch
     unfolding scratch_after
-    scratch_same = rw all_alike.is (go (first (reach_checks p batch house r scratch)) refl)
+    scratch_same = rw all_alike.is (go (first (reach_checks kind p batch house r scratch)) refl)
       where
         go :
-            (o : Outcome) → first (reach_checks p batch house r scratch) ≡ o
-            → left_by o (marked (others n r) (n.rows 5) scratch) scratch ≡ left_by o (marked (others m r) (m.rows 5) scratch) scratch
-        go (Ok u) e = let x = known e in marks_are m n (t.triggers x.0.accepted) (settled m x.0.accepted) r scratch x.1
+            (o : Outcome) → first (reach_checks kind p batch house r scratch) ≡ o
+            → left_by o (marked kind (others n r) (n.rows 5) scratch) scratch ≡ left_by o (marked kind (others m r) (m.rows 5) scratch) scratch
+        go (Ok u) e = let x = known e in marks_are m n (t.triggers x.0.accepted) (settled m x.0.accepted) kind r scratch x.1
         go (Err f) e = refl

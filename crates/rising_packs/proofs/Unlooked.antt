@@ -49,6 +49,6 @@ pub rising_answer_same : RisingAnswerSame
 rising_answer_same p q batch house h k d = rising_same p q batch house h k (alike p q batch house h d)
 
 pub reach_answer_same : ReachAnswerSame
-reach_answer_same p q batch house h k d r scratch =
+reach_answer_same p q batch house h k d kind r scratch =
     let t = alike p q batch house h d in
-    (reach_same p q batch house h k t r scratch, scratch_same p q batch house h k t r scratch)
+    (reach_same p q batch house h k t kind r scratch, scratch_same p q batch house h k t kind r scratch)

@@ -4,6 +4,7 @@ use Rattle.packing.specs.declared.PackKind.TheVariants.{Enclave}
 use Rattle.packing.specs.Packing.{Packed}
 use Rattle.larger_bounds.specs.Packs.{DifferInStorage, NoBoundSmaller, SlotAnswer}
 use Rattle.unlooked.specs.Packs.{DifferUnlooked}
+use Rattle.rising.specs.declared.marks.Marks.{Marks}
 use Rattle.rising.specs.Rising.{rising_answer}
 use Rattle.rising.specs.Answer.{reach_answer, scratch_after}
 
@@ -20,9 +21,9 @@ abbrev pub ReachAnswerStays : Type 0
 ReachAnswerStays =
     (p q batch house : List ℕ) → Packed Enclave p batch house → Packed Enclave q batch house
     → DifferInStorage p q → NoBoundSmaller p q
-    → (r : ℕ) (scratch : List ℕ) → (SlotAnswer (reach_answer p batch house r scratch) → ⊥)
-    → (reach_answer q batch house r scratch ≡ reach_answer p batch house r scratch)
-    × (scratch_after q batch house r scratch ≡ scratch_after p batch house r scratch)
+    → (k : Marks) (r : ℕ) (scratch : List ℕ) → (SlotAnswer (reach_answer k p batch house r scratch) → ⊥)
+    → (reach_answer k q batch house r scratch ≡ reach_answer k p batch house r scratch)
+    × (scratch_after k q batch house r scratch ≡ scratch_after k p batch house r scratch)
 
 -- packs that differ only in what the check of a station does not look at have one answer of the second check, links and refusals included
 abbrev pub RisingAnswerSame : Type 0
@@ -34,6 +35,6 @@ RisingAnswerSame =
 abbrev pub ReachAnswerSame : Type 0
 ReachAnswerSame =
     (p q batch house : List ℕ) → Packed Enclave p batch house → Packed Enclave q batch house
-    → DifferUnlooked Enclave p q → (r : ℕ) (scratch : List ℕ)
-    → (reach_answer q batch house r scratch ≡ reach_answer p batch house r scratch)
-    × (scratch_after q batch house r scratch ≡ scratch_after p batch house r scratch)
+    → DifferUnlooked Enclave p q → (k : Marks) (r : ℕ) (scratch : List ℕ)
+    → (reach_answer k q batch house r scratch ≡ reach_answer k p batch house r scratch)
+    × (scratch_after k q batch house r scratch ≡ scratch_after k p batch house r scratch)

@@ -17,7 +17,7 @@ returns-in_err-check_rising_starts-clause-answer c =
     let batch = c.args.batch.now in
     let house = c.args.house.now in
     let h : numbers c.in_err-check_rising_starts.field-0.0 ≡ rising_answer p batch house = c.in_err-check_rising_starts.ensures.answer in
-    let k = reach_refused p batch house c.args.reaction c.args.scratch.now _ (sym h) in
+    let k = reach_refused p batch house c.args.kind c.args.reaction c.args.scratch.now _ (sym h) in
     grind (arith, k)
 
 pub returns-in_err-check_rising_starts-clause-scratch : goal.returns-in_err-check_rising_starts-clause-scratch
@@ -26,7 +26,7 @@ returns-in_err-check_rising_starts-clause-scratch c =
     let batch = c.args.batch.now in
     let house = c.args.house.now in
     let h : numbers c.in_err-check_rising_starts.field-0.0 ≡ rising_answer p batch house = c.in_err-check_rising_starts.ensures.answer in
-    sym (scratch_stays p batch house c.args.reaction c.args.scratch.now _ (sym h))
+    sym (scratch_stays p batch house c.args.kind c.args.reaction c.args.scratch.now _ (sym h))
 
 pub enclave-requires-clause-starts : goal.enclave-requires-clause-starts
 enclave-requires-clause-starts c =
@@ -73,9 +73,9 @@ returns-clause-answer c =
     let firsts : c.enclave.result.starts.now.firsts ≡ table_starts p 1 = rw c.enclave.ensures.starts found in
     let m : image_of c.enclave.result ≡ pack_image p batch house = image_is p batch house c.enclave.result (search rules) (search rules) (search rules) firsts (search rules) in
     c.count_in.ensures.answer
-    ∙ ap (λ x. image_reach x c.new.result.0 c.args.scratch.now) m
-    ∙ ap (λ y. image_reach (pack_image p batch house) y.0 c.args.scratch.now) c.new.ensures
-    ∙ sym (reach_is p batch house s c.args.reaction c.args.scratch.now)
+    ∙ ap (λ x. image_reach c.args.kind x c.new.result.0 c.args.scratch.now) m
+    ∙ ap (λ y. image_reach c.args.kind (pack_image p batch house) y.0 c.args.scratch.now) c.new.ensures
+    ∙ sym (reach_is p batch house s c.args.kind c.args.reaction c.args.scratch.now)
 
 pub returns-clause-scratch : goal.returns-clause-scratch
 returns-clause-scratch c =
@@ -88,6 +88,6 @@ returns-clause-scratch c =
     let firsts : c.enclave.result.starts.now.firsts ≡ table_starts p 1 = rw c.enclave.ensures.starts found in
     let m : image_of c.enclave.result ≡ pack_image p batch house = image_is p batch house c.enclave.result (search rules) (search rules) (search rules) firsts (search rules) in
     c.count_in.ensures.scratch
-    ∙ ap (λ x. image_scratch x c.new.result.0 c.args.scratch.now) m
-    ∙ ap (λ y. image_scratch (pack_image p batch house) y.0 c.args.scratch.now) c.new.ensures
-    ∙ sym (scratch_is p batch house s c.args.reaction c.args.scratch.now)
+    ∙ ap (λ x. image_scratch c.args.kind x c.new.result.0 c.args.scratch.now) m
+    ∙ ap (λ y. image_scratch c.args.kind (pack_image p batch house) y.0 c.args.scratch.now) c.new.ensures
+    ∙ sym (scratch_is p batch house s c.args.kind c.args.reaction c.args.scratch.now)

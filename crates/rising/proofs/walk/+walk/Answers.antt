@@ -1,7 +1,7 @@
 -- What each step of the walk reads is there and falls; what it marks adds to what was walked so far.
 use Rattle.std.proofs.Common.{◌<◌, ◌≤◌, length, ◌∙◌, sym, ap, subst, arith}
 use Rattle.checks.specs.Image.{image_of, reaction_part}
-use Rattle.rising.specs.declared.marks.Marks.TheVariants.{Bytes, Bits}
+use Rattle.rising.specs.declared.marks.Marks.TheVariants.{Bits}
 use Rattle.rising.specs.Rising.{triggers_of}
 use Rattle.rising.proofs.MarkLaws.{Sets, sets}
 use Rattle.rising.proofs.Climb.{climb, port_climb}
@@ -25,7 +25,7 @@ by_port-by_reaction-requires t c =
     let m = image_of c.args.e.now in
     let x = target_read m c.args.port.0 c.loop-j.j c.row-start.ensures (ap (λ y. y.holds) c.row_at.ensures) c.requires.ready.rises c.requires.there c.loop-j-test.true in
     let g = c.loop-j.invariant.grown in
-    let marks = ap length c.mark-in-loop-j.ensures ∙ (sets Bytes c.loop-j.marks c.row_at.result.holds.reaction.0 (mark_room c.loop-j.marks c.requires.ready g.long x.there)).long ∙ g.long in
+    let marks = ap length c.mark-in-loop-j.ensures ∙ (sets c.args.kind c.loop-j.marks c.row_at.result.holds.reaction.0 (mark_room c.loop-j.marks c.requires.ready g.long x.there)).long ∙ g.long in
     let ports = g.ports_long ∙ ap length c.mark.ensures ∙ (sets Bits c.args.ports.now c.args.port.0 (port_room c.requires.ready c.requires.there)).long in
     (subst (λ n. climb m c.row_at.result.holds.reaction.0 < n) c.decreases x.falls, (ready_on c.requires.ready marks ports, x.there))
 
@@ -33,8 +33,8 @@ pub by_port-loop-j-preserved : goal.by_port-loop-j-preserved
 by_port-loop-j-preserved t c =
     let m = image_of c.args.e.now in
     let x = target_read m c.args.port.0 c.loop-j.j c.row-start.ensures (ap (λ y. y.holds) c.row_at.ensures) c.requires.ready.rises c.requires.there c.loop-j-test.true in
-    let s = sets Bytes c.loop-j.marks c.row_at.result.holds.reaction.0 (mark_room c.loop-j.marks c.requires.ready c.loop-j.invariant.grown.long x.there) in
-    port_turn x.is x.inside x.there (subst (λ ys. Sets Bytes c.row_at.result.holds.reaction.0 c.loop-j.marks ys) (sym c.mark-in-loop-j.ensures) s) c.loop-j.invariant c.by_reaction.ensures
+    let s = sets c.args.kind c.loop-j.marks c.row_at.result.holds.reaction.0 (mark_room c.loop-j.marks c.requires.ready c.loop-j.invariant.grown.long x.there) in
+    port_turn x.is x.inside x.there (subst (λ ys. Sets c.args.kind c.row_at.result.holds.reaction.0 c.loop-j.marks ys) (sym c.mark-in-loop-j.ensures) s) c.loop-j.invariant c.by_reaction.ensures
 
 pub by_port-returns : goal.by_port-returns
 by_port-returns t c =

@@ -11,7 +11,7 @@ abbrev pub decreases-by_port : goal.decreases-by_port
 decreases-by_port l = port_climb (image_of l.e.now) l.port.0
 
 abbrev pub invariant-by_reaction-loop-k : goal.invariant-by_reaction-loop-k
-invariant-by_reaction-loop-k l = FromReaction (image_of l.e) l.fn.reaction.0 l.k l.initial.marks l.marks l.initial.ports l.ports
+invariant-by_reaction-loop-k l = FromReaction (image_of l.e) l.kind l.fn.reaction.0 l.k l.initial.marks l.marks l.initial.ports l.ports
 
 abbrev pub invariant-by_port-loop-j : goal.invariant-by_port-loop-j
-invariant-by_port-loop-j l = FromPort (image_of l.e) l.fn.port.0 l.j l.initial.marks l.marks l.initial.ports l.ports
+invariant-by_port-loop-j l = FromPort (image_of l.e) l.kind l.fn.port.0 l.j l.initial.marks l.marks l.initial.ports l.ports
