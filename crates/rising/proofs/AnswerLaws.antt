@@ -26,11 +26,12 @@ use Rattle.enclave.specs.Passes.{enclave_checks}
 use Rattle.enclave.specs.Answer.{unless, left_by, image_answer, pack_image, enclave_answer}
 use Rattle.enclave.proofs.Accepted.{no_refusal, accepted_packed, accepted_checks, accepted_links}
 use Rattle.rising.specs.declared.marks.Marks.{Marks}
+use Rattle.rising.specs.declared.marks.Marks.TheVariants.{Bytes, Bits}
 use Rattle.rising.specs.Rising.{rising_checks, station_checks, rising_answer, LevelsRise}
 use Rattle.rising.specs.Reach.{others}
 use Rattle.rising.specs.Marks.{room, mark_of, marked}
 use Rattle.rising.specs.Answer.{asked_checks, reach_count, image_reach, image_scratch, reach_checks, reach_answer, scratch_after}
-use Rattle.rising.specs.Claims.{YesRises, MarksTell}
+use Rattle.rising.specs.Claims.{YesRises, MarksTell, SameReach, SameMarks}
 use Rattle.rising.proofs.Closure.{others_exactly}
 use Rattle.rising.proofs.MarkLaws.{mark_tells}
 
@@ -215,3 +216,13 @@ marks_tell k p batch house r scratch n h = (
       let y = others_exactly (pack_image p batch house) (asked_rises k p batch house r scratch n h) r u (asked_there k p batch house r scratch n h) in
       ((λ e w. (zero_is _).0 (sym x ∙ e) (y.1 w)), (λ f. x ∙ (zero_is _).1 (λ t. f (y.0 t))))),
 )
+
+-- ---- whatever the marks
+pub same_reach : SameReach
+unfolding reach_answer reach_checks
+same_reach p batch house r scratch small a b =
+    rw (le-leb (room Bytes ((pack_image p batch house).rows 5)) (length scratch) a, le-leb (room Bits ((pack_image p batch house).rows 5)) (length small) b) refl
+
+pub same_marks : SameMarks
+same_marks p batch house r scratch small n a b u l =
+    mark_after Bits p batch house r small n b u l ∙ sym (mark_after Bytes p batch house r scratch n a u l)

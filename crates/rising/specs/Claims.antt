@@ -1,11 +1,12 @@
 -- What is promised of levels that rise and of what a reaction reaches. Assumes nothing.
-use Rattle.std.specs.Prelude.{ℕ, ◌<◌, ◌≡◌, ◌↔◌, true, List, [], ◌∷◌}
+use Rattle.std.specs.Prelude.{ℕ, ◌<◌, ◌≤◌, ◌≡◌, ◌↔◌, true, List, [], ◌∷◌, length}
 use Rattle.checks.specs.Image.{Image}
 use Rattle.enclave.specs.Answer.{pack_image, enclave_answer}
 use Rattle.rising.specs.declared.marks.Marks.{Marks}
+use Rattle.rising.specs.declared.marks.Marks.TheVariants.{Bytes, Bits}
 use Rattle.rising.specs.Rising.{stands_on, rising_answer, LevelsRise}
 use Rattle.rising.specs.Reach.{Triggers, Reaches, others}
-use Rattle.rising.specs.Marks.{mark_of}
+use Rattle.rising.specs.Marks.{room, mark_of}
 use Rattle.rising.specs.Answer.{reach_answer, scratch_after}
 
 -- a yes of the second station check is the first's, with the same links, of an image whose levels rise
@@ -39,3 +40,19 @@ MarksTell =
     LevelsRise m × (r < m.rows 5)
     × ((u : ℕ) → u < m.rows 5 → (mark_of k after u ≡ 1) ↔ Reaches m r u)
     × ((u : ℕ) → u < m.rows 5 → (mark_of k after u ≡ 0) ↔ (Reaches m r u → ⊥))
+
+-- whatever the marks: where both have room, both give one number, and one mark to each reaction
+abbrev pub SameReach : Type 0
+SameReach =
+    (p batch house : List ℕ) (r : ℕ) (scratch small : List ℕ)
+    → let m = pack_image p batch house in
+    room Bytes (m.rows 5) ≤ length scratch → room Bits (m.rows 5) ≤ length small
+    → reach_answer Bits p batch house r small ≡ reach_answer Bytes p batch house r scratch
+
+abbrev pub SameMarks : Type 0
+SameMarks =
+    (p batch house : List ℕ) (r : ℕ) (scratch small : List ℕ) (n : ℕ)
+    → let m = pack_image p batch house in
+    reach_answer Bytes p batch house r scratch ≡ 0 ∷ n ∷ [] → reach_answer Bits p batch house r small ≡ 0 ∷ n ∷ []
+    → (u : ℕ) → u < m.rows 5
+    → mark_of Bits (scratch_after Bits p batch house r small) u ≡ mark_of Bytes (scratch_after Bytes p batch house r scratch) u
