@@ -96,8 +96,8 @@ uint32_t convert_enclave_image(const uint8_t *pack, size_t pack_len, uint8_t *ou
 
 uint32_t convert_federate_image(const uint8_t *pack, size_t pack_len, uint8_t *out, size_t out_len, uint64_t *numbers);
 
-/* Bytes of stack that are enough for a call of reached_in_bytes_of_image: it goes down as far as the longest chain of reactions that a pack can hold,
- * 16,383 of them. Threads of some C libraries have less unless asked; bindings/rust/tests/packs.rs runs that chain in it. */
+/* Bytes of stack that are enough for a call of reached_in_bytes_of_image or reached_in_bits_of_image: they go down as far as the longest chain of
+ * reactions that a pack can hold, 16,383 of them. Threads of some C libraries have less unless asked; bindings/rust/tests/packs.rs runs that chain in it. */
 #define IMAGE_CHECK_REACH_STACK 2097152
 
 /* The second check of a station: the ordinary check, and after it that levels rise. Each reaction must stand on a lower level than every reaction that a
@@ -109,19 +109,23 @@ uint32_t check_rising_image(const uint8_t *pack, size_t pack_len, const uint8_t 
                             const uint8_t *house, size_t house_len, uint64_t *numbers);
 
 /* How many other reactions one reaction reaches, in a station that the second check accepts: by its effects the reactions that those ports trigger, and
- * whatever these reach. Which ones is left in `scratch`, which the host lends: a byte for each reaction, 1 reached and 0 not. The asking reaction's own
- * is 0.
+ * whatever these reach. Which ones is left in `scratch`, which the host lends: in reached_in_bytes_of_image a byte for each reaction, 1 reached and 0 not;
+ * in reached_in_bits_of_image a bit for each, from the lowest of the first byte, and 0 in the last byte's other bits. The asking reaction's own mark is 0.
  *
  * The answer: 0 and the count (result 2); or what check_rising_image refuses; or 12, 5, 0, 27, 5, the reaction asked and how many reactions there are,
- * where it is none of them (result 7); or 33, where the scratch is too short (result 1): it needs as many bytes as there are reactions. Bytes of the
- * scratch past those needed stay, and all of them do where the answer refuses.
+ * where it is none of them (result 7); or 33, where the scratch is too short (result 1): it needs as many bytes as there are reactions, for bits an
+ * eighth of that, rounded up. Bytes of the scratch past those needed stay, and all of them do where the answer refuses.
  *
- * All that is said above of check_enclave_image holds of this call too, but for the stack, and but that it writes the scratch. Assumed of the host:
+ * All that is said above of check_enclave_image holds of these calls too, but for the stack, and but that they write the scratch. Assumed of the host:
  * scratch points to as many bytes as its length says, set, and nothing else reads or writes them before the call returns; they overlap neither the three
  * strings nor numbers. With length 0 the pointer may be NULL. The stack has room: IMAGE_CHECK_REACH_STACK. */
 uint32_t reached_in_bytes_of_image(const uint8_t *pack, size_t pack_len, const uint8_t *batch, size_t batch_len,
                           const uint8_t *house, size_t house_len, uint32_t reaction, uint8_t *scratch, size_t scratch_len,
                           uint64_t *numbers);
+
+uint32_t reached_in_bits_of_image(const uint8_t *pack, size_t pack_len, const uint8_t *batch, size_t batch_len,
+                         const uint8_t *house, size_t house_len, uint32_t reaction, uint8_t *scratch, size_t scratch_len,
+                         uint64_t *numbers);
 
 /* A running tally of line answers: how many were added, at most 1,000,000; how many of these are accepted; and the sum of their links. All zeros
  * is the tally of no answers. */

@@ -15,6 +15,7 @@ enum {
     NIGHT = 2,
     RISING = 3,
     REACHED_BYTES = 4,
+    REACHED_BITS = 5,
     OWNER = 6,
     CONVERT = 7,
     CHANGE = 8,
@@ -294,7 +295,10 @@ static int answer_reached(const uint8_t *head, const uint8_t *pack, const uint8_
     uint64_t *numbers = exactly(8 * sizeof *numbers);
     memset(numbers, 0xA5, 8 * sizeof *numbers);
     if (!ends(whole, known)) {
-        count = reached_in_bytes_of_image(pack, p, batch, b, house, h, reaction, marks, n, numbers);
+        if (head[0] == REACHED_BYTES)
+            count = reached_in_bytes_of_image(pack, p, batch, b, house, h, reaction, marks, n, numbers);
+        else
+            count = reached_in_bits_of_image(pack, p, batch, b, house, h, reaction, marks, n, numbers);
         print_words("reached", numbers, count);
         print_bytes(marks, n);
     }
@@ -322,7 +326,7 @@ static int answer_case(const uint8_t *head, int null_if_empty)
         whole = answer_conversion(pack, p, null_if_empty, whole);
     else if (head[0] == FIRST_TREE || head[0] == NEXT_TREE)
         whole = answer_tree(head[0], null_if_empty, whole);
-    else if (head[0] == REACHED_BYTES)
+    else if (head[0] == REACHED_BYTES || head[0] == REACHED_BITS)
         whole = answer_reached(head, pack, batch, house, null_if_empty, whole);
     else if (!whole)
         puts("cut off");

@@ -1,7 +1,7 @@
 //! Answers a corpus on standard input as the program `replay` does (oracle/README.md has the format).
 use image_check::{
     
-    change_record, check_enclave, check_federate, check_federate_night, convert_enclave, convert_federate, first_tree, check_rising, mode_owner, preview_record, next_tree, reached_in_bytes,
+    change_record, check_enclave, check_federate, check_federate_night, convert_enclave, convert_federate, first_tree, check_rising, mode_owner, preview_record, next_tree, reached_in_bits, reached_in_bytes,
 };
 use image_check::{Fraction, Next, Refusal, Tally,
 };
@@ -131,11 +131,12 @@ fn next(rest: &mut &[u8]) -> Option<String> {
         1 => check_federate(&pack, &batch, &house).to_string(),
         2 => check_federate_night(&pack, &batch, &house).to_string(),
         3 => check_rising(&pack, &batch, &house).to_string(),
-        4 => {
+        kind @ (4 | 5) => {
             let reaction = number(rest)?;
             let lent_length = length(rest)?;
             let mut lent = take(rest, lent_length)?;
-            with_lent(reached_in_bytes(&pack, &batch, &house, reaction, &mut lent), &lent)
+            let reached = if kind == 4 { reached_in_bytes } else { reached_in_bits };
+            with_lent(reached(&pack, &batch, &house, reaction, &mut lent), &lent)
         }
         6 => mode_owner(&pack, &batch, &house, number(rest)?).to_string(),
         8 | 9 => change(kind, pack, [&batch, &house], rest)?,

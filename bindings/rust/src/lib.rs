@@ -57,8 +57,8 @@ impl fmt::Display for Answer {
     }
 }
 
-/// Bytes of stack that are enough for [`reached_in_bytes`]: it goes down as far as the longest chain of reactions that a pack can hold. A thread
-/// of Rust's has as many unless it is asked for fewer.
+/// Bytes of stack that are enough for [`reached_in_bytes`] and [`reached_in_bits`]: they go down as far as the longest chain of reactions that a pack can
+/// hold. A thread of Rust's has as many unless it is asked for fewer.
 pub const REACH_STACK: usize = 2 << 20;
 
 /// What a reaction reaches. It is shown in the words of the program `replay`.
@@ -146,6 +146,19 @@ impl fmt::Display for Fraction {
         write!(f, "{}/{}", self.numerator, self.denominator)
     }
 }
+
+type Reach = unsafe extern "C" fn(
+    *const u8,
+    usize,
+    *const u8,
+    usize,
+    *const u8,
+    usize,
+    u32,
+    *mut u8,
+    usize,
+    *mut [u64; 8],
+) -> u32;
 
 type Check = unsafe extern "C" fn(*const u8, usize, *const u8, usize, *const u8, usize, *mut [u64; 8]) -> u32;
 
@@ -256,6 +269,19 @@ extern "C" {
         numbers: *mut [u64; 8],
     ) -> u32;
 
+    fn reached_in_bits_of_image(
+        pack: *const u8,
+        pack_len: usize,
+        batch: *const u8,
+        batch_len: usize,
+        house: *const u8,
+        house_len: usize,
+        reaction: u32,
+        scratch: *mut u8,
+        scratch_len: usize,
+        numbers: *mut [u64; 8],
+    ) -> u32;
+
     fn add_accepted_to_tally(tally: *mut Tally, links: u64, numbers: *mut [u64; 8]) -> u32;
     fn add_refused_to_tally(tally: *mut Tally, numbers: *mut [u64; 8]) -> u32;
     fn share_of_tally(tally: *const Tally, numbers: *mut [u64; 8]) -> u32;
@@ -351,6 +377,18 @@ pub fn check_rising(pack: &[u8], batch: &[u8], house: &[u8]) -> Answer {
     }
 }
 
+fn reached(reach: Reach, lent: [&[u8]; 3], reaction: u32, scratch: &mut [u8]) -> Reached {
+    let [(p, p_len), (b, b_len), (h, h_len)] = lent.map(|part| (part.as_ptr(), part.len()));
+    let (s, s_len) = (scratch.as_mut_ptr(), scratch.len());
+    // SAFETY: as in `numbers`; the scratch is this call's alone.
+    let refusal =
+        written_by(|written| unsafe { reach(p, p_len, b, b_len, h, h_len, reaction, s, s_len, written) });
+    match refusal.values {
+        [0, count, ..] => Reached::Count(count as u32),
+        _ => Reached::Refused(refusal),
+    }
+}
+
 /// How many other reactions one reaches, in a station that [`check_rising`] accepts. The first bytes of the scratch, one for each reaction, are 1 for those
 /// and 0 for the others. It needs [`REACH_STACK`] bytes of stack.
 pub fn reached_in_bytes(
@@ -360,16 +398,18 @@ pub fn reached_in_bytes(
     reaction: u32,
     scratch: &mut [u8],
 ) -> Reached {
-    let [(p, p_len), (b, b_len), (h, h_len)] = [pack, batch, house].map(|part| (part.as_ptr(), part.len()));
-    let (s, s_len) = (scratch.as_mut_ptr(), scratch.len());
-    // SAFETY: as in `numbers`; the scratch is this call's alone.
-    let refusal = written_by(|written| unsafe {
-        reached_in_bytes_of_image(p, p_len, b, b_len, h, h_len, reaction, s, s_len, written)
-    });
-    match refusal.values {
-        [0, count, ..] => Reached::Count(count as u32),
-        _ => Reached::Refused(refusal),
-    }
+    reached(reached_in_bytes_of_image, [pack, batch, house], reaction, scratch)
+}
+
+/// The same in a bit for each reaction, from the lowest of the first byte; the last byte's other bits are 0.
+pub fn reached_in_bits(
+    pack: &[u8],
+    batch: &[u8],
+    house: &[u8],
+    reaction: u32,
+    scratch: &mut [u8],
+) -> Reached {
+    reached(reached_in_bits_of_image, [pack, batch, house], reaction, scratch)
 }
 
 /// The reactor that a mode of a station belongs to.

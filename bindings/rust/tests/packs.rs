@@ -1,7 +1,7 @@
 //! A few packs by hand, and large ones on a stack of `STACK` bytes.
 use image_check::{
     change_record, check_enclave, check_federate, check_federate_night, check_rising, first_tree, mode_owner,
-    next_tree, preview_record, reached_in_bytes,
+    next_tree, preview_record, reached_in_bits, reached_in_bytes,
 };
 use image_check::{Answer, Fraction, Next, Owner, Reached, Tally, CHANGE_STACK, REACH_STACK, STACK};
 
@@ -189,9 +189,10 @@ fn try_reaching() {
     let mut bytes = [0xA5; 6];
     assert_eq!(reached_in_bytes(&pack, text, b"", 0, &mut bytes), Reached::Count(3));
     assert_eq!(bytes, [0, 1, 1, 1, 0, 0xA5]);
-    assert_eq!(reached_in_bytes(&pack, text, b"", 0, &mut bytes).to_string(), "reached 3");
-    assert_eq!(reached_in_bytes(&pack, text, b"", 4, &mut bytes), Reached::Count(0));
-    assert_eq!(bytes, [0, 0, 0, 0, 0, 0xA5]);
+    let mut bits = [0xA5; 2];
+    assert_eq!(reached_in_bits(&pack, text, b"", 0, &mut bits).to_string(), "reached 3");
+    assert_eq!(bits, [0b1110, 0xA5]);
+    assert_eq!((reached_in_bits(&pack, text, b"", 4, &mut bits), bits), (Reached::Count(0), [0, 0xA5]));
     for (reaction, scratch, expected) in
         [(5, 9, "refused 12 5 0 27 5 5 5"), (5, 0, "refused 12 5 0 27 5 5 5"), (0, 4, "refused 33")]
     {
@@ -199,6 +200,7 @@ fn try_reaching() {
         assert_eq!(reached_in_bytes(&pack, text, b"", reaction, &mut lent).to_string(), expected);
         assert_eq!(lent, vec![0x5A; scratch]);
     }
+    assert_eq!(reached_in_bits(&pack, text, b"", 0, &mut []).to_string(), "refused 33");
     let level = levelled(&[0, 0], &[&[1]], &[&[0], &[]]);
     assert_eq!(check_enclave(&level, text, b""), Answer::Enclave { links: 0 });
     assert_eq!(check_rising(&level, text, b"").to_string(), "refused 32 0 1");
@@ -221,13 +223,18 @@ fn longest_chain() {
     let effects: Vec<&[u32]> = own.iter().map(|one| &one[..]).chain([&[][..]]).collect();
     let pack = levelled(&levels, &triggers, &effects);
     assert!(pack.len() <= 4194304 && pack.len() + 4 * 64 > 4194304, "{}", pack.len());
-    let (answer, marks) = on_stack(REACH_STACK, move || {
-        let mut bytes = vec![2; count as usize];
-        let answer = reached_in_bytes(&pack, b"abcd", b"", 0, &mut bytes);
-        (answer, bytes.iter().map(|byte| u32::from(*byte)).sum::<u32>())
+    let (answers, marks) = on_stack(REACH_STACK, move || {
+        let (mut bytes, mut bits) = (vec![2; count as usize], vec![2; count.div_ceil(8) as usize]);
+        let in_bytes = reached_in_bytes(&pack, b"abcd", b"", 0, &mut bytes);
+        let in_bits = reached_in_bits(&pack, b"abcd", b"", 0, &mut bits);
+        (
+            [in_bytes, in_bits],
+            bytes.iter().map(|byte| u32::from(*byte)).sum::<u32>()
+                + bits.iter().map(|byte| byte.count_ones()).sum::<u32>(),
+        )
     });
-    assert_eq!(answer, Reached::Count(count - 1));
-    assert_eq!(marks, count - 1);
+    assert_eq!(answers, [Reached::Count(count - 1); 2]);
+    assert_eq!(marks, 2 * (count - 1));
 }
 
 fn try_tallies() {

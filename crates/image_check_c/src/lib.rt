@@ -9,7 +9,7 @@ ghost use Rattle.night.specs.Night.{night_answer};
 ghost use Rattle.mode_owner.specs.Owner.{owner_answer};
 ghost use Rattle.change.specs.Change.{change_answer, pack_after};
 ghost use Rattle.convert.specs.Convert.{convert_checks, output_after};
-ghost use Rattle.rising.specs.declared.marks.Marks.TheVariants.{Bytes};
+ghost use Rattle.rising.specs.declared.marks.Marks.TheVariants.{Bytes, Bits};
 ghost use Rattle.rising.specs.Rising.{rising_answer};
 ghost use Rattle.rising.specs.Answer.{reach_answer, scratch_after};
 ghost use Rattle.tally.specs.declared.LineResult.TheVariants.{Accepted, Refused};
@@ -161,6 +161,22 @@ pub extern "C" fn reached_in_bytes_of_image<'a>(
     ensures scratch { scratch.new ≡ scratch_after Bytes pack.now batch.now house.now reaction scratch.old }
 {
     reached::count_reached_in_image(pack, batch, house, reaction, Marks::Bytes, scratch, numbers)
+}
+
+// The same, marked in a bit each.
+#[unsafe(no_mangle)]
+pub extern "C" fn reached_in_bits_of_image<'a>(
+    pack: &'a [u8],
+    batch: &'a [u8],
+    house: &'a [u8],
+    reaction: u32,
+    scratch: &mut [u8],
+    numbers: &mut [u64; 8],
+) -> u32
+    ensures answer { Answered (reach_answer Bits pack.now batch.now house.now reaction scratch.old) result numbers.new }
+    ensures scratch { scratch.new ≡ scratch_after Bits pack.now batch.now house.now reaction scratch.old }
+{
+    reached::count_reached_in_image(pack, batch, house, reaction, Marks::Bits, scratch, numbers)
 }
 
 // Adds an accepted answer to a tally, with its links; the result is how many of `numbers` hold the answer.
