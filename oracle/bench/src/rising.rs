@@ -4,7 +4,7 @@ use crate::names::{place, texts};
 use crate::rows::{binding, enclave, reactor, scope, PORT, REACTION, STATE};
 use crate::show;
 use crate::stats::{growth, Spread};
-use image_check::{check_enclave, check_rising, reached_in_bytes, Answer, Reached};
+use image_check::{check_enclave, check_rising, reached_in_bits, reached_in_bytes, Answer, Reached};
 use pack::layout::{PORTS, REACTIONS, TRIGGERS};
 use pack::row::{pack, Row};
 use std::cell::RefCell;
@@ -70,13 +70,16 @@ impl Station {
 
 /// Prints the rows; whether all answers are those that the stations were made for.
 pub fn run(quick: bool, effort: Effort) -> bool {
-    println!("\n{:<16} {:>9} {:>10} {:>10} {:>10}", "levels", "pack", "check", "rising", "in bytes");
+    println!(
+        "\n{:<16} {:>9} {:>10} {:>10} {:>10} {:>10}",
+        "levels", "pack", "check", "rising", "in bytes", "in bits"
+    );
     let sizes = if quick { &SIZES[..3] } else { &SIZES[..] };
     FAMILIES.iter().fold(true, |agreed, family| table(*family, sizes, effort) && agreed)
 }
 
 fn table((name, make): Family, sizes: &[usize], effort: Effort) -> bool {
-    let mut points = vec![vec![]; 3];
+    let mut points = vec![vec![]; 4];
     for size in sizes {
         let station = make(*size);
         let pack = station.pack();
@@ -97,19 +100,21 @@ fn table((name, make): Family, sizes: &[usize], effort: Effort) -> bool {
     true
 }
 
-/// Medians of the ordinary check, the second one, and the question.
+/// Medians of the ordinary check, the second one, and the question in bytes and in bits.
 fn measure(station: &Station, pack: &[u8], effort: Effort) -> Option<Vec<f64>> {
     let (batch, house) = texts(3);
     let count = station.levels.len();
-    let bytes = RefCell::new(vec![0; count]);
+    let (bytes, bits) = (RefCell::new(vec![0; count]), RefCell::new(vec![0; count.div_ceil(8)]));
     let ordinary = || check_enclave(black_box(pack), &batch, &house);
     let rising = || check_rising(black_box(pack), &batch, &house);
     let in_bytes = || reached_in_bytes(black_box(pack), &batch, &house, 0, &mut bytes.borrow_mut());
+    let in_bits = || reached_in_bits(black_box(pack), &batch, &house, 0, &mut bits.borrow_mut());
     let (yes, all) = (Answer::Enclave { links: 0 }, Reached::Count(count as u32 - 1));
-    if ordinary() != yes || rising() != yes || in_bytes() != all {
+    if ordinary() != yes || rising() != yes || in_bytes() != all || in_bits() != all {
         return None;
     }
-    let sides: [Side; 3] = [&|| keep(ordinary()), &|| keep(rising()), &|| keep(in_bytes())];
+    let sides: [Side; 4] =
+        [&|| keep(ordinary()), &|| keep(rising()), &|| keep(in_bytes()), &|| keep(in_bits())];
     let sides: Vec<(Side, f64)> = sides.map(|side| (side, estimate(None, side))).into();
     Some(alternate(&sides, effort).iter().map(|times| Spread::of(times).median()).collect())
 }

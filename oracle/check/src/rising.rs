@@ -1,7 +1,7 @@
-//! Levels that rise, and what a reaction reaches (document 02, Wish 4), by the rows of an accepted station.
+//! Levels that rise, and what a reaction reaches (document 02, Wishes 4 and 11), by the rows of an accepted station.
 use crate::numbers::from_1;
 use crate::{rows, Answer};
-use pack::corpus::Case;
+use pack::corpus::{Case, REACHED_BITS};
 use pack::layout::{PORTS, REACTIONS, TRIGGERS};
 use pack::names::FIELDS;
 use pack::row::Row;
@@ -14,13 +14,14 @@ struct Reactions {
     triggered: Vec<Vec<usize>>,
 }
 
-/// The answer to a question of kind 3 or 4, whose station's own answer is given.
+/// The answer to a question of kind 3, 4 or 5, whose station's own answer is given.
 pub fn of(case: &Case, station: Answer) -> Answer {
     let Some((asked, lent)) = case.reaction() else {
         return risen(case, station).map_or_else(|refusal| refusal, |(answer, _)| answer);
     };
     let mut lent = lent.to_vec();
-    let answer = risen(case, station).and_then(|(_, reactions)| reactions.reached(asked, &mut lent));
+    let answer =
+        risen(case, station).and_then(|(_, reactions)| reactions.reached(case.kind, asked, &mut lent));
     Answer::Lent(Box::new(answer.unwrap_or_else(|refusal| refusal)), lent)
 }
 
@@ -67,18 +68,23 @@ impl Reactions {
     }
 
     /// The count, with the lent bytes written; or a refusal.
-    fn reached(&self, asked: u32, lent: &mut [u8]) -> Result<Answer, Answer> {
+    fn reached(&self, kind: u8, asked: u32, lent: &mut [u8]) -> Result<Answer, Answer> {
         let count = self.levels.len();
         if asked as usize >= count {
             let (table, field) = (REACTIONS.into(), from_1(&FIELDS, "reaction"));
             return Err(Answer::Refused(vec![12, table, 0, field, table, asked.into(), count as u64]));
         }
-        if lent.len() < count {
+        let need = if kind == REACHED_BITS { count.div_ceil(8) } else { count };
+        if lent.len() < need {
             return Err(Answer::Refused(vec![33]));
         }
         let reached = self.closure(asked as usize);
-        for (mark, reached) in lent.iter_mut().zip(&reached) {
-            *mark = u8::from(*reached);
+        lent[..need].fill(0);
+        for reaction in (0..count).filter(|reaction| reached[*reaction]) {
+            match kind {
+                REACHED_BITS => lent[reaction / 8] |= 1 << (reaction % 8),
+                _ => lent[reaction] = 1,
+            }
         }
         Ok(Answer::Reached(reached.iter().filter(|reached| **reached).count() as u64))
     }
@@ -109,9 +115,9 @@ mod tests {
         Reactions { levels: vec![0, 1, level, 2, 0], triggered }
     }
 
-    fn asked(reaction: u32, lent: &[u8]) -> (String, Vec<u8>) {
+    fn asked(kind: u8, reaction: u32, lent: &[u8]) -> (String, Vec<u8>) {
         let mut lent = lent.to_vec();
-        let answer = diamond(1).reached(reaction, &mut lent).unwrap_or_else(|refusal| refusal);
+        let answer = diamond(1).reached(kind, reaction, &mut lent).unwrap_or_else(|refusal| refusal);
         (answer.to_string(), lent)
     }
 
@@ -124,10 +130,12 @@ mod tests {
     }
 
     #[test]
-    fn in_bytes() {
-        assert_eq!(asked(0, &[9; 6]), ("reached 3".into(), vec![0, 1, 1, 1, 0, 9]));
-        assert_eq!(asked(4, &[9; 5]), ("reached 0".into(), vec![0; 5]));
-        assert_eq!(asked(5, &[]), ("refused 12 5 0 27 5 5 5".into(), vec![]));
-        assert_eq!(asked(1, &[9; 4]), ("refused 33".into(), vec![9; 4]));
+    fn in_bytes_and_bits() {
+        assert_eq!(asked(4, 0, &[9; 6]), ("reached 3".into(), vec![0, 1, 1, 1, 0, 9]));
+        assert_eq!(asked(5, 0, &[9; 2]), ("reached 3".into(), vec![0b1110, 9]));
+        assert_eq!(asked(4, 4, &[9; 5]), ("reached 0".into(), vec![0; 5]));
+        assert_eq!(asked(4, 5, &[]), ("refused 12 5 0 27 5 5 5".into(), vec![]));
+        assert_eq!(asked(4, 1, &[9; 4]), ("refused 33".into(), vec![9; 4]));
+        assert_eq!(asked(5, 1, &[]), ("refused 33".into(), vec![]));
     }
 }

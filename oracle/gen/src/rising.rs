@@ -1,24 +1,24 @@
-//! Stations whose levels rise, or nearly do, and questions of them (document 02, Wish 4).
+//! Stations whose levels rise, or nearly do, and questions of them (document 02, Wishes 4 and 11).
 use crate::damage::damage;
 use crate::line::{grown, Extent};
 use crate::plan::{Size, SMALL};
 use crate::rng::Rng;
 use crate::texts::Texts;
-use pack::corpus::{Case, Kind, REACHED_BYTES, RISING};
+use pack::corpus::{Case, Kind, REACHED_BITS, REACHED_BYTES, RISING};
 use pack::layout::{BINDINGS, ENCLAVE, PORTS, REACTIONS, REACTORS, SCOPES, TRIGGERS};
 use pack::row::{pack, Row};
 
 const EFFECTS: u8 = 10;
 
-/// The second check, or what a reaction reaches, in a byte each.
+/// The second check, or what a reaction reaches, in a byte or a bit each.
 pub fn case(rng: &mut Rng) -> Case {
     let (mut rows, mut texts) =
         if rng.chance(1, 5) { any_levels(rng) } else { Levels::new(rng).station(rng) };
     if rng.chance(1, 8) {
         damage(rng, &mut rows, &mut texts, None);
     }
-    let kind = rng.pick(&[RISING, REACHED_BYTES, REACHED_BYTES]);
-    let rest = if kind == RISING { vec![] } else { asked(rng, &rows) };
+    let kind = rng.pick(&[RISING, REACHED_BYTES, REACHED_BYTES, REACHED_BITS, REACHED_BITS]);
+    let rest = if kind == RISING { vec![] } else { asked(rng, kind, &rows) };
     Case { kind, pack: pack(&rows), batch: texts.batch, house: texts.house, rest }
 }
 
@@ -29,16 +29,17 @@ fn any_levels(rng: &mut Rng) -> (Vec<Row>, Texts) {
 }
 
 /// A reaction, mostly one that is there, and bytes to lend: one less than are needed, as many, or more.
-fn asked(rng: &mut Rng, rows: &[Row]) -> Vec<u8> {
+fn asked(rng: &mut Rng, kind: u8, rows: &[Row]) -> Vec<u8> {
     let count = rows.iter().filter(|row| row.table == REACTIONS).count() as u64;
     let after = [count, count + 1, u64::from(u32::MAX)];
     let there = count > 0 && rng.chance(9, 10);
     let reaction = if there { rng.below(count) * rng.below(3).min(1) } else { rng.pick(&after) };
+    let need = if kind == REACHED_BITS { count.div_ceil(8) } else { count };
     let lent = match rng.below(8) {
-        0 => count.saturating_sub(1),
-        1 => rng.below(count + 1),
-        2 | 3 => count + rng.between(1, 20),
-        _ => count,
+        0 => need.saturating_sub(1),
+        1 => rng.below(need + 1),
+        2 | 3 => need + rng.between(1, 20),
+        _ => need,
     };
     let mut rest: Vec<u8> = (reaction as u32).to_be_bytes().into();
     rest.extend((lent as u32).to_be_bytes());

@@ -9,12 +9,13 @@ pub enum Kind {
 }
 
 /// The kinds of question: the check of a station, that of a line, that of a line at night, that of rising levels, what a reaction reaches in marks of a byte
-/// each, the owner of a mode, the converter, a record of a line changed or tried first, the first scope tree and the next, and a tally.
+/// and of a bit each, the owner of a mode, the converter, a record of a line changed or tried first, the first scope tree and the next, and a tally.
 pub const STATION: u8 = 0;
 pub const LINE: u8 = 1;
 pub const NIGHT: u8 = 2;
 pub const RISING: u8 = 3;
 pub const REACHED_BYTES: u8 = 4;
+pub const REACHED_BITS: u8 = 5;
 pub const OWNER: u8 = 6;
 pub const CONVERT: u8 = 7;
 pub const CHANGE: u8 = 8;
@@ -33,7 +34,7 @@ pub const LENT_LIMIT: u32 = 65_536;
 fn rest_length(kind: u8) -> Option<u64> {
     match kind {
         STATION | LINE | NIGHT | RISING => Some(0),
-        REACHED_BYTES | OWNER | CONVERT | CHANGE | PREVIEW | FIRST_TREE | NEXT_TREE => Some(4),
+        REACHED_BYTES | REACHED_BITS | OWNER | CONVERT | CHANGE | PREVIEW | FIRST_TREE | NEXT_TREE => Some(4),
         TALLY => Some(TALLY_HEAD),
         _ => None,
     }
@@ -62,7 +63,7 @@ impl Case {
     pub fn kind(&self) -> Option<Kind> {
         match self.kind {
             STATION | OWNER => Some(Kind::Enclave),
-            RISING | REACHED_BYTES => Some(Kind::Enclave),
+            RISING | REACHED_BYTES | REACHED_BITS => Some(Kind::Enclave),
             LINE | NIGHT | CHANGE | PREVIEW => Some(Kind::Federate),
             _ => None,
         }
@@ -90,7 +91,7 @@ impl Case {
 
     /// The reaction that is asked and the bytes that are lent, where they are.
     pub fn reaction(&self) -> Option<(u32, &[u8])> {
-        let asked = self.kind == REACHED_BYTES;
+        let asked = matches!(self.kind, REACHED_BYTES | REACHED_BITS);
         asked.then(|| (number(&self.rest), &self.rest[8..]))
     }
 
@@ -162,7 +163,7 @@ impl<R: Read> Corpus<R> {
         let ended = match case.kind {
             TALLY => self.steps(&mut case.rest)?,
             CONVERT if number(&case.rest) > 1 => Some(Next::UnknownKind),
-            REACHED_BYTES | CONVERT | CHANGE | PREVIEW | FIRST_TREE | NEXT_TREE => self.lent(&mut case.rest)?,
+            REACHED_BYTES | REACHED_BITS | CONVERT | CHANGE | PREVIEW | FIRST_TREE | NEXT_TREE => self.lent(&mut case.rest)?,
             _ => None,
         };
         Ok(ended.unwrap_or(Next::Case(case)))
