@@ -3,8 +3,8 @@ use crate::answer::answer_of;
 use crate::changes::{ChangeCase, change_answer, read_change};
 use crate::conversion::{Conversion, conversion_answer, read_conversion};
 use crate::input::{
-    CHANGE, CONVERT, FIRST_TREE, NEXT_TREE, PREVIEW, REACHED_BYTES, ReadError, Room, TALLY,
-    read_kind, read_parts,
+    CHANGE, CONVERT, FIRST_TREE, NEXT_TREE, PREVIEW, REACHED_BITS, REACHED_BYTES, ReadError, Room,
+    TALLY, read_kind, read_parts,
 };
 use crate::reached::{ReachedCase, reached_answer, read_reached};
 use crate::scope_trees::{TreeCase, Wanted, read_tree, tree_answer};
@@ -117,6 +117,10 @@ fn answer_case<R: BufRead, W: Write>(
     let added = match kind {
         REACHED_BYTES => {
             let case = read_reached(Marks::Bytes, input, room)?;
+            add_reached(output, lines, case)
+        }
+        REACHED_BITS => {
+            let case = read_reached(Marks::Bits, input, room)?;
             add_reached(output, lines, case)
         }
         CHANGE | PREVIEW => {

@@ -34,6 +34,8 @@ const RISING: u8 = 3;
 
 pub const REACHED_BYTES: u8 = 4;
 
+pub const REACHED_BITS: u8 = 5;
+
 const MODE_OWNER: u8 = 6;
 
 pub const CONVERT: u8 = 7;
