@@ -62,10 +62,14 @@ pub fn cases(rt: &HostRuntime) -> Result<()> {
     show_reached(rt, name, &rises, 0, Marks::Bytes, &mut bytes)?;
     let name = b"what reaction 1 reaches";
     show_reached(rt, name, &rises, 1, Marks::Bytes, &mut bytes)?;
+    let name = b"what reaction 0 reaches, in bits";
+    show_reached(rt, name, &rises, 0, Marks::Bits, &mut bytes)?;
     let name = b"the reaction after the last, and no bytes";
     show_reached(rt, name, &rises, 2, Marks::Bytes, &mut [])?;
     let name = b"one byte for two reactions";
     show_reached(rt, name, &rises, 0, Marks::Bytes, &mut bytes[..1])?;
+    let name = b"no byte for two bits";
+    show_reached(rt, name, &rises, 0, Marks::Bits, &mut [])?;
     let name = b"levels that do not rise, and no bytes";
     show_reached(rt, name, &triggering(1, 0), 2, Marks::Bytes, &mut [])
 }
