@@ -7,3 +7,4 @@ pub mod Order
 pub mod Text
 pub mod Scan
 pub mod Window
+pub mod Short

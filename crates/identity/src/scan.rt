@@ -2,6 +2,7 @@
 ghost use Rattle.std.specs.Prelude.{◌≡◌, true, false, ◌+◌, ◌-◌, ◌<◌, ◌≤◌, length, IfSome, IfNone};
 ghost use Rattle.identity.specs.Utf8.{utf8};
 ghost use Rattle.identity.specs.Identity.{valid_id};
+ghost use Rattle.identity.specs.Short.{short_ascii};
 ghost use Rattle.identity.specs.Scan.{ascii, every, ascii_at, refused, Run, Stepped, rest_from};
 ghost use Rattle.identity.specs.Window.{due, second, starts, fits, fits_at, quiet_at};
 
@@ -24,6 +25,13 @@ fn all_ascii<const ANY: bool>(text: &[u8]) -> bool
         all &= ascii::<ANY>(*b);
     }
     all
+}
+
+// Whether a text is 4 to 16 bytes of ASCII.
+pub fn short_ascii(text: &[u8]) -> bool
+    ensures { result ≡ short_ascii text.now }
+{
+    matches!(text.len(), 4..=16) && all_ascii::<true>(text)
 }
 
 // Whether a following byte is due after p, q and r, the nearest of them first.

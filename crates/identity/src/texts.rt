@@ -1,10 +1,12 @@
 // The two lent texts, and the part of them that an identity's place names.
 ghost use Rattle.std.specs.Prelude.{◌≡◌, cond};
 ghost use Rattle.identity.specs.Order.{compared, sign};
+ghost use Rattle.identity.specs.Short.{names_ascii};
 ghost use Rattle.identity.specs.Text.{part_at, part_pointer, named_text, place_inside, identity_text, identity_pointer};
 
 use crate::IdentityPlace;
 use crate::compare::compare_bytes;
+use crate::scan::short_ascii;
 use std::cmp::Ordering;
 
 // The `len` bytes of `text` from `start`, or the empty part at the text's start where that place is outside.
@@ -50,6 +52,13 @@ impl<'a> Texts<'a> {
         ensures pointer { let b = self.entry.batch in let h = self.entry.house in result.ref_ptr ≡ identity_pointer b.ref_ptr h.ref_ptr b.now h.now place }
     {
         part_at(self.named(place), place.start, place.len)
+    }
+
+    // Whether a place is inside its text and names 4 to 16 bytes of ASCII.
+    pub fn names_ascii(self, place: IdentityPlace) -> bool
+        ensures { result ≡ names_ascii self.entry.batch.now self.entry.house.now place }
+    {
+        self.holds(place) && short_ascii(self.identity_text(place))
     }
 
     // The order of two identities by byte, a place outside counting as empty: of the texts that they name, so that it is no `Ord` of the places.
