@@ -1,15 +1,18 @@
--- What holds of the numbers of every refusal: the first is neither 0 nor 11, and there are at most seven. Assumes nothing.
+-- What holds of the numbers of every refusal: the first is neither 0 nor 11, and there are at most seven; and of the list that has them first. Assumes nothing.
 use Prim.Native.Nat.{ℕ, ◌≤◌}
 use mathlib.Core.Bool.{false}
-use mathlib.Core.Path.{◌≡◌, refl}
-use mathlib.Core.List.{List}
+use mathlib.Core.Path.{◌≡◌, refl, ◌∙◌}
+use mathlib.Core.List.{List, ◌++◌}
 use native.Mathlib.Omega.{arith}
 use lib.Dec.{eqb}
-use lib.ListN.{length, get_or}
+use lib.ListN.{length, get_or, take, replicate}
+use lib.Seq.{take-take, take-append_seam}
 use borrow.Author.Tests.{eqb-false}
 use Rattle.answers.specs.declared.Refusal.{Refusal}
 use Rattle.answers.specs.declared.Refusal.TheVariants.{Length, TextTooLong, TableOutOfPlace, StrayByte, IdentityOutside, NotUtf8, ReferenceOutOfBounds, RangeOutOfBounds, RangesNotMonotonic, EntriesNotSorted, DuplicateEntry, OwnershipMismatch, ScopeParentCycle, InvalidStableId, StableIdsNotSorted, DuplicateStableId, InvalidBankInfo, StorageBoundExceeded, BindingKindMismatch, BindingPresenceMismatch, DuplicateRouteHalf, RoutePairMismatch, UnpairedRoute, PhysicalRoute, ScopeTooDeep, TooManyReactors, LevelNotRising, ScratchTooShort, OutputTooShort, NoSuchRecord, RecordLength, TableChanges, ScopeCount, ZeroDeadline, TallyFull, ParentsLength, ParentOutside, NotATree, LinkSumTooLarge, NothingToDivide, NoSuchTally}
+use Rattle.answers.specs.declared.NumberList.{NumberList}
 use Rattle.answers.specs.Numbers.{numbers}
+use Rattle.answers.specs.Listed.{listed}
 
 abbrev Shaped : List ℕ → Type 0
 Shaped ns = (1 ≤ get_or ns 0 0) × (length ns ≤ 7) × (eqb (get_or ns 0 0) 11 ≡ false)
@@ -66,3 +69,12 @@ numbers-few r = (shaped r).1
 
 pub not_eleven : (r : Refusal) → get_or (numbers r) 0 0 ≡ 11 → ⊥
 not_eleven r = eqb-false (get_or (numbers r) 0 0) 11 (shaped r).2
+
+pub numbers-first : (r : Refusal) (l : NumberList) → l ≡ listed (length (numbers r)) (numbers r) → take l.len l.values ≡ numbers r
+numbers-first r l e =
+    rw e (take-take (length (numbers r)) 8 (numbers r ++ replicate 8 0) (omega (arith, numbers-few r)) ∙ take-append_seam (numbers r) (replicate 8 0))
+
+pub numbers_fit : (r : Refusal) (l : NumberList) → l ≡ listed (length (numbers r)) (numbers r) → l.len ≤ 8
+numbers_fit r l e = rw e (omega (arith, numbers-few r))
+
+pub ruleset number_laws = (numbers-first, numbers_fit)

@@ -1,4 +1,5 @@
 pub mod Fields
 pub mod Numbers
+pub mod Listed
 pub mod Checks
 pub mod Slots

@@ -3,6 +3,7 @@
 
 ghost use Rattle.std.specs.Prelude.{◌≡◌, ◌≤◌, [], ◌∷◌, length};
 ghost use Rattle.answers.specs.Numbers.{placed, located, identified, numbers};
+ghost use Rattle.answers.specs.Listed.{listed};
 
 pub mod field;
 pub mod id;
@@ -154,134 +155,170 @@ pub fn listed(numbers: &[u64]) -> Numbers
     list
 }
 
+// A list of numbers: the first `len` of `values`.
+#[derive(Clone, Copy, Debug)]
+pub struct NumberList {
+    pub len: usize,
+    pub values: [u64; 8],
+}
+
+// A list of up to seven numbers, zeros after it.
+fn list_of(len: usize, a: u64, b: u64, c: u64, d: u64, e: u64, f: u64, g: u64) -> NumberList
+    ensures { result ≡ listed len (a ∷ b ∷ c ∷ d ∷ e ∷ f ∷ g ∷ []) }
+{
+    NumberList {
+        len,
+        values: [a, b, c, d, e, f, g, 0],
+    }
+}
+
+// A number alone, with one value and with two.
+fn bare(number: u64) -> NumberList
+    ensures { result ≡ listed 1 (number ∷ []) }
+{
+    list_of(1, number, 0, 0, 0, 0, 0, 0)
+}
+
+fn one(number: u64, value: u32) -> NumberList
+    ensures { result ≡ listed 2 (number ∷ value ∷ []) }
+{
+    list_of(2, number, u64::from(value), 0, 0, 0, 0, 0)
+}
+
+fn two(number: u64, value: u32, next: u32) -> NumberList
+    ensures { result ≡ listed 3 (number ∷ value ∷ next ∷ []) }
+{
+    list_of(3, number, u64::from(value), u64::from(next), 0, 0, 0, 0)
+}
+
 // A number with what stands at a field of a row.
-fn at_field(number: u64, at: RowField) -> Numbers
-    ensures { result.items ≡ number ∷ located at [] }
+fn at_field(number: u64, at: RowField) -> NumberList
+    ensures { result ≡ listed 4 (number ∷ located at []) }
 {
     let [table, index, field] = at.numbers();
-    listed(&[number, table, index, field])
+    list_of(4, number, table, index, field, 0, 0, 0)
 }
 
 // A number with an identity of a row.
-fn with_id(number: u64, id: StableId) -> Numbers
-    ensures { result.items ≡ number ∷ identified id [] }
+fn with_id(number: u64, id: StableId) -> NumberList
+    ensures { result ≡ listed 6 (number ∷ identified id []) }
 {
     let [kind, index, house, start, len] = id.numbers();
-    listed(&[number, kind, index, house, start, len])
+    list_of(6, number, kind, index, house, start, len, 0)
 }
 
 // A number with a boundary and one value.
-fn with_boundary(number: u64, boundary: IdentityPlace, value: u8) -> Numbers
-    ensures { result.items ≡ number ∷ placed boundary (value ∷ []) }
+fn with_boundary(number: u64, boundary: IdentityPlace, value: u8) -> NumberList
+    ensures { result ≡ listed 5 (number ∷ placed boundary (value ∷ [])) }
 {
     let [house, start, len] = place_numbers(boundary);
-    listed(&[number, house, start, len, u64::from(value)])
+    list_of(5, number, house, start, len, u64::from(value), 0, 0)
+}
+
+// The number of a refusal in the documents and the values after it; zeros after those.
+pub fn numbers(refusal: Refusal) -> NumberList
+    ensures { result ≡ listed (length (numbers refusal)) (numbers refusal) }
+{
+    match refusal {
+        Refusal::Length => bare(1),
+        Refusal::TextTooLong { house } => one(2, u32::from(house)),
+        Refusal::TableOutOfPlace { record } => one(3, record),
+        Refusal::StrayByte { record } => one(4, record),
+        Refusal::IdentityOutside { record } => one(5, record),
+        Refusal::NotUtf8 { record } => one(6, record),
+        Refusal::ReferenceOutOfBounds {
+            at,
+            target,
+            referenced,
+            rows,
+        } => {
+            let [t, i, f] = at.numbers();
+            let (target, referenced) = (u64::from(target), u64::from(referenced));
+            list_of(7, 12, t, i, f, target, referenced, u64::from(rows))
+        }
+        Refusal::RangeOutOfBounds {
+            at,
+            target,
+            start,
+            len,
+        } => {
+            let [t, i, f] = at.numbers();
+            list_of(7, 13, t, i, f, u64::from(target), start, len)
+        }
+        Refusal::RangesNotMonotonic {
+            at,
+            start,
+            previous_end,
+        } => {
+            let [t, i, f] = at.numbers();
+            list_of(6, 14, t, i, f, start, previous_end, 0)
+        }
+        Refusal::EntriesNotSorted { table, index } => two(15, u32::from(table), index),
+        Refusal::DuplicateEntry { table, index } => two(16, u32::from(table), index),
+        Refusal::OwnershipMismatch { at } => at_field(17, at),
+        Refusal::ScopeParentCycle { scope } => one(18, scope),
+        Refusal::InvalidStableId { id } => with_id(19, id),
+        Refusal::StableIdsNotSorted { id } => with_id(20, id),
+        Refusal::DuplicateStableId { id } => with_id(21, id),
+        Refusal::InvalidBankInfo {
+            reactor,
+            index,
+            total,
+        } => {
+            let (reactor, index) = (u64::from(reactor), u64::from(index));
+            list_of(4, 22, reactor, index, u64::from(total), 0, 0, 0)
+        }
+        Refusal::StorageBoundExceeded {
+            table,
+            index,
+            slot,
+            bound,
+        } => {
+            let (table, index) = (u64::from(table), u64::from(index));
+            list_of(5, 23, table, index, u64::from(slot), u64::from(bound), 0, 0)
+        }
+        Refusal::BindingKindMismatch { at } => at_field(24, at),
+        Refusal::BindingPresenceMismatch { at } => at_field(25, at),
+        Refusal::DuplicateRouteHalf {
+            boundary,
+            direction,
+        } => with_boundary(27, boundary, u8::from(direction)),
+        Refusal::RoutePairMismatch { boundary, field } => {
+            with_boundary(28, boundary, u8::from(field))
+        }
+        Refusal::UnpairedRoute {
+            boundary,
+            direction,
+        } => with_boundary(26, boundary, u8::from(direction)),
+        Refusal::PhysicalRoute { enclave, route } => two(29, enclave, route),
+        Refusal::ScopeTooDeep { enclave, scope } => two(30, enclave, scope),
+        Refusal::TooManyReactors { enclave, reactors } => two(31, enclave, reactors),
+        Refusal::LevelNotRising { reaction, target } => two(32, reaction, target),
+        Refusal::ScratchTooShort => bare(33),
+        Refusal::OutputTooShort => bare(34),
+        Refusal::NoSuchRecord => bare(35),
+        Refusal::RecordLength => bare(36),
+        Refusal::TableChanges => bare(37),
+        Refusal::ScopeCount => bare(38),
+        Refusal::ZeroDeadline { index } => one(39, index),
+        Refusal::TallyFull => bare(40),
+        Refusal::ParentsLength => bare(41),
+        Refusal::ParentOutside => bare(42),
+        Refusal::NotATree => bare(43),
+        Refusal::LinkSumTooLarge => bare(44),
+        Refusal::NothingToDivide => bare(45),
+        Refusal::NoSuchTally => bare(46),
+    }
 }
 
 impl Refusal {
-    // Document 01's number and the values after it: a list, and no conversion to one value.
+    // The numbers alone, without the zeros: a list, and no conversion to one value.
+    #[tactic(auto, using(crate::proofs::RefusalNumbers::number_laws))]
     pub fn numbers(self) -> Numbers
         ensures { result.items ≡ numbers self }
     {
-        match self {
-            Refusal::Length => listed(&[1]),
-            Refusal::TextTooLong { house } => listed(&[2, u64::from(house)]),
-            Refusal::TableOutOfPlace { record } => listed(&[3, u64::from(record)]),
-            Refusal::StrayByte { record } => listed(&[4, u64::from(record)]),
-            Refusal::IdentityOutside { record } => listed(&[5, u64::from(record)]),
-            Refusal::NotUtf8 { record } => listed(&[6, u64::from(record)]),
-            Refusal::ReferenceOutOfBounds {
-                at,
-                target,
-                referenced,
-                rows,
-            } => {
-                let [t, i, f] = at.numbers();
-                let (target, referenced) = (u64::from(target), u64::from(referenced));
-                listed(&[12, t, i, f, target, referenced, u64::from(rows)])
-            }
-            Refusal::RangeOutOfBounds {
-                at,
-                target,
-                start,
-                len,
-            } => {
-                let [t, i, f] = at.numbers();
-                listed(&[13, t, i, f, u64::from(target), start, len])
-            }
-            Refusal::RangesNotMonotonic {
-                at,
-                start,
-                previous_end,
-            } => {
-                let [t, i, f] = at.numbers();
-                listed(&[14, t, i, f, start, previous_end])
-            }
-            Refusal::EntriesNotSorted { table, index } => {
-                listed(&[15, u64::from(table), u64::from(index)])
-            }
-            Refusal::DuplicateEntry { table, index } => {
-                listed(&[16, u64::from(table), u64::from(index)])
-            }
-            Refusal::OwnershipMismatch { at } => at_field(17, at),
-            Refusal::ScopeParentCycle { scope } => listed(&[18, u64::from(scope)]),
-            Refusal::InvalidStableId { id } => with_id(19, id),
-            Refusal::StableIdsNotSorted { id } => with_id(20, id),
-            Refusal::DuplicateStableId { id } => with_id(21, id),
-            Refusal::InvalidBankInfo {
-                reactor,
-                index,
-                total,
-            } => listed(&[22, u64::from(reactor), u64::from(index), u64::from(total)]),
-            Refusal::StorageBoundExceeded {
-                table,
-                index,
-                slot,
-                bound,
-            } => {
-                let (table, index) = (u64::from(table), u64::from(index));
-                listed(&[23, table, index, u64::from(slot), u64::from(bound)])
-            }
-            Refusal::BindingKindMismatch { at } => at_field(24, at),
-            Refusal::BindingPresenceMismatch { at } => at_field(25, at),
-            Refusal::DuplicateRouteHalf {
-                boundary,
-                direction,
-            } => with_boundary(27, boundary, u8::from(direction)),
-            Refusal::RoutePairMismatch { boundary, field } => {
-                with_boundary(28, boundary, u8::from(field))
-            }
-            Refusal::UnpairedRoute {
-                boundary,
-                direction,
-            } => with_boundary(26, boundary, u8::from(direction)),
-            Refusal::PhysicalRoute { enclave, route } => {
-                listed(&[29, u64::from(enclave), u64::from(route)])
-            }
-            Refusal::ScopeTooDeep { enclave, scope } => {
-                listed(&[30, u64::from(enclave), u64::from(scope)])
-            }
-            Refusal::TooManyReactors { enclave, reactors } => {
-                listed(&[31, u64::from(enclave), u64::from(reactors)])
-            }
-            Refusal::LevelNotRising { reaction, target } => {
-                listed(&[32, u64::from(reaction), u64::from(target)])
-            }
-            Refusal::ScratchTooShort => listed(&[33]),
-            Refusal::OutputTooShort => listed(&[34]),
-            Refusal::NoSuchRecord => listed(&[35]),
-            Refusal::RecordLength => listed(&[36]),
-            Refusal::TableChanges => listed(&[37]),
-            Refusal::ScopeCount => listed(&[38]),
-            Refusal::ZeroDeadline { index } => listed(&[39, u64::from(index)]),
-            Refusal::TallyFull => listed(&[40]),
-            Refusal::ParentsLength => listed(&[41]),
-            Refusal::ParentOutside => listed(&[42]),
-            Refusal::NotATree => listed(&[43]),
-            Refusal::LinkSumTooLarge => listed(&[44]),
-            Refusal::NothingToDivide => listed(&[45]),
-            Refusal::NoSuchTally => listed(&[46]),
-        }
+        let list = numbers(self);
+        listed(&list.values[..list.len])
     }
 }
 
