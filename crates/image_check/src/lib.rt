@@ -7,7 +7,7 @@ pub mod reached;
 pub mod scope_trees;
 pub mod tallies;
 
-ghost use Rattle.std.specs.Prelude.{◌≤◌, length};
+ghost use Rattle.std.specs.Prelude.{◌≤◌, length, Err};
 ghost use Rattle.enclave.specs.Answer.{enclave_answer};
 ghost use Rattle.federate.specs.Answer.{federate_numbers, federate_answer};
 ghost use Rattle.night.specs.Night.{night_answer};
@@ -32,13 +32,24 @@ fn put(answer: &[u64], numbers: &mut [u64; 8]) -> u32
     answer.len() as u32
 }
 
+// Writes a refusal's numbers, all eight at once, and answers how many it has.
+#[tactic(auto, using(crate::proofs::Filled::filled_refusal))]
+fn put_refusal(refusal: Refusal, numbers: &mut [u64; 8]) -> u32
+    ensures { Answered (outcome_numbers (Err refusal)) result numbers.new }
+{
+    let list = answers::numbers(refusal);
+    let values = list.values;
+    *numbers = values;
+    list.len as u32
+}
+
 // The numbers of what has no value to give: 0 alone, or the refusal's.
 fn put_outcome(outcome: Result<(), Refusal>, numbers: &mut [u64; 8]) -> u32
     ensures { Answered (outcome_numbers outcome) result numbers.new }
 {
     match outcome {
         Ok(()) => put(&[0], numbers),
-        Err(refusal) => put(refusal.numbers().as_slice(), numbers),
+        Err(refusal) => put_refusal(refusal, numbers),
     }
 }
 
@@ -53,7 +64,7 @@ pub fn check_enclave_image<'a>(
 {
     match check_enclave(pack, batch, house) {
         Ok(links) => put(&[0, links], numbers),
-        Err(refusal) => put(refusal.numbers().as_slice(), numbers),
+        Err(refusal) => put_refusal(refusal, numbers),
     }
 }
 
@@ -63,7 +74,7 @@ fn put_federate(answer: Result<FederateAccepted, Refusal>, numbers: &mut [u64; 8
 {
     match answer {
         Ok(FederateAccepted { enclaves, links }) => put(&[0, u64::from(enclaves), links], numbers),
-        Err(refusal) => put(refusal.numbers().as_slice(), numbers),
+        Err(refusal) => put_refusal(refusal, numbers),
     }
 }
 
@@ -103,6 +114,6 @@ pub fn mode_owner_of_image<'a>(
 {
     match mode_owner(pack, batch, house, mode) {
         Ok(reactor) => put(&[0, u64::from(reactor.0)], numbers),
-        Err(refusal) => put(refusal.numbers().as_slice(), numbers),
+        Err(refusal) => put_refusal(refusal, numbers),
     }
 }

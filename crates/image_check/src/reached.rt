@@ -4,7 +4,7 @@ ghost use Rattle.rising.specs.Rising.{rising_answer};
 ghost use Rattle.rising.specs.Answer.{reach_answer, scratch_after};
 ghost use Rattle.image_check.specs.Answered.{Answered};
 
-use crate::put;
+use crate::{put, put_refusal};
 use rising::marks::Marks;
 use rising::rising::{check_rising, count_reached};
 
@@ -19,7 +19,7 @@ pub fn check_rising_image<'a>(
 {
     match check_rising(pack, batch, house) {
         Ok(links) => put(&[0, links], numbers),
-        Err(refusal) => put(refusal.numbers().as_slice(), numbers),
+        Err(refusal) => put_refusal(refusal, numbers),
     }
 }
 
@@ -38,6 +38,6 @@ pub fn count_reached_in_image<'a>(
 {
     match count_reached(pack, batch, house, reaction, kind, scratch) {
         Ok(count) => put(&[0, u64::from(count)], numbers),
-        Err(refusal) => put(refusal.numbers().as_slice(), numbers),
+        Err(refusal) => put_refusal(refusal, numbers),
     }
 }

@@ -4,7 +4,7 @@ ghost use Rattle.trees.specs.Answer.{first_answer, first_bytes, next_answer, nex
 ghost use Rattle.image_check.specs.Answered.{Answered};
 ghost use Rattle.image_check.specs.ScopeTrees.{first_numbers, next_numbers};
 
-use crate::put;
+use crate::{put, put_refusal};
 use trees::{Next, first_tree, next_tree};
 
 // The first legal table of so many scopes, in the place of the lent bytes: 0 and 1, or the refusal's number. The result is how many of `numbers` hold it.
@@ -14,7 +14,7 @@ pub fn first_scope_tree(count: u32, table: &mut [u8], numbers: &mut [u64; 8]) ->
 {
     match first_tree(count, table) {
         Ok(()) => put(&[0, 1], numbers),
-        Err(refusal) => put(refusal.numbers().as_slice(), numbers),
+        Err(refusal) => put_refusal(refusal, numbers),
     }
 }
 
@@ -27,6 +27,6 @@ pub fn next_scope_tree(count: u32, table: &mut [u8], numbers: &mut [u64; 8]) -> 
     match next_tree(count, table) {
         Ok(Next::Table) => put(&[0, 1], numbers),
         Ok(Next::End) => put(&[0, 0], numbers),
-        Err(refusal) => put(refusal.numbers().as_slice(), numbers),
+        Err(refusal) => put_refusal(refusal, numbers),
     }
 }

@@ -6,7 +6,7 @@ ghost use Rattle.tally.specs.Fractions.{share, mean};
 ghost use Rattle.image_check.specs.Answered.{Answered, outcome_numbers};
 ghost use Rattle.image_check.specs.Tallies.{tally_of, tally_numbers, fraction_numbers};
 
-use crate::{put, put_outcome};
+use crate::{put, put_outcome, put_refusal};
 use answers::Refusal;
 use tally::{Fraction, LineResult, Tally, add, mean, share};
 
@@ -41,7 +41,7 @@ fn put_fraction(answer: Result<Fraction, Refusal>, numbers: &mut [u64; 8]) -> u3
                 denominator,
             },
         ) => put(&[0, numerator, denominator], numbers),
-        Err(refusal) => put(refusal.numbers().as_slice(), numbers),
+        Err(refusal) => put_refusal(refusal, numbers),
     }
 }
 
