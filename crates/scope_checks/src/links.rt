@@ -60,6 +60,14 @@ pub fn links_by(e: &Enclave, depths: &[u32], scope: ScopeIndex) -> u32
     scopes
 }
 
+// The same where no depth is known.
+#[tactic(auto, using(crate::proofs::DepthLaws::known_nowhere))]
+pub fn links_of(e: &Enclave, scope: ScopeIndex) -> u32
+    ensures { let m = image_of e.now in result ≡ links_of (parents m) (m.rows 7) scope.0 }
+{
+    links_by(e, &[], scope)
+}
+
 // Writes the depth of a scope and those of the scopes above it, up to the first that is known: from parent to parent, and
 // no range or iterator has that order.
 #[tactic(auto, using(crate::proofs::LinksLaws::followed_laws, crate::proofs::DepthLaws::known_set))]
