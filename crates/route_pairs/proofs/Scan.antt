@@ -1,10 +1,10 @@
 -- The least of the rows that do not fit where they stand. Assumes nothing.
-use Rattle.std.proofs.Common.{ℕ, zero, suc, ◌+◌, ◌<◌, ◌≤◌, ◌≡◌, Bool, true, false, not, List, [], map, length, get_or, refl, arith, true≢false, sym, ◌∙◌}
+use Rattle.std.proofs.Common.{ℕ, zero, suc, ◌+◌, ◌<◌, ◌≤◌, ◌≡◌, Bool, true, false, not, ◌||◌, cond, leb, List, [], map, length, get_or, refl, ap, arith, true≢false, sym, ◌∙◌}
 use Rattle.std.proofs.Math.Nat.{min-le_left, min-le_right, min-eq_left, min-eq_right}
-use Rattle.std.proofs.lemmas.Iterator.Adapters.{option_map_id}
 use Prim.Native.Nat.{min}
-use Rattle.std.specs.Prelude.{Option, Some, None, MatchOption, All, option_map}
+use Rattle.std.specs.Prelude.{Option, Some, None, MatchOption, All}
 use Rattle.std.specs.List.{filter, fold, reduce, range_with_len}
+use borrow.Author.Tests.{leb-true, leb-false}
 use Rattle.identity.specs.declared.IdentityPlace.{IdentityPlace}
 use Rattle.identity.proofs.Tests.{cases, below_or_not}
 use Rattle.schema.specs.Records.{records_of}
@@ -86,6 +86,34 @@ module _ (text : IdentityPlace → List ℕ) (p rows : List ℕ) where
   does_fit : (k : ℕ) → misfit k ≡ false → fits text p rows k ≡ true
   does_fit k h = not_false (fits text p rows k) h
 
+  -- the least so far, with place k looked at: passed over where its row is not less, or fits
+  abbrev pub lesser : Option ℕ → ℕ → Option ℕ
+  lesser None k = cond (fits text p rows k) None (Some (row k))
+  lesser (Some m) k = cond (leb m (row k) || fits text p rows k) (Some m) (Some (row k))
+
+  lesser_next : (n a : ℕ) (o q : Option ℕ) → lesser o a ≡ q → fold lesser o (range_with_len a (suc n)) ≡ fold lesser q (range_with_len (a + 1) n)
+  lesser_next n a o q e = ap (λ (x : Option ℕ). fold lesser x (range_with_len (a + 1) n)) e
+
+  lesser_on : (n a m : ℕ) → fold lesser (Some m) (range_with_len a n) ≡ Some (fold min m (rows_from misfit row a n))
+  lesser_on zero a m = refl
+  lesser_on (suc n) a m =
+      cases (leb m (row a))
+      (λ l. lesser_next n a (Some m) (Some m) (rw l refl) ∙ cases (fits text p rows a)
+      (λ f. rw f (lesser_on n (a + 1) m))
+      (λ f. rw (f, min-eq_left (leb-true m (row a) l)) (lesser_on n (a + 1) m)))
+      (λ l. cases (fits text p rows a)
+      (λ f. lesser_next n a (Some m) (Some m) (rw (l, f) refl) ∙ rw f (lesser_on n (a + 1) m))
+      (λ f.
+      let h : row a ≤ m = omega (arith, leb-false m (row a) l) in
+      lesser_next n a (Some m) (Some (row a)) (rw (l, f) refl) ∙ rw (f, min-eq_right h) (lesser_on n (a + 1) (row a))))
+
+  lesser_least : (n a : ℕ) → fold lesser None (range_with_len a n) ≡ reduce min (rows_from misfit row a n)
+  lesser_least zero a = refl
+  lesser_least (suc n) a =
+      cases (fits text p rows a)
+      (λ f. lesser_next n a None None (rw f refl) ∙ rw f (lesser_least n (a + 1)))
+      (λ f. lesser_next n a None (Some (row a)) (rw f refl) ∙ rw f (lesser_on n (a + 1) (row a)))
+
   module _ (inside : All (λ r. r < records_of p) rows) where
     scanned : (o : Option ℕ) → IsLeast misfit row 0 (length rows) o → FoundBelow (records_of p) (Scanned text p rows (length rows)) o
     scanned None l = record { within = omega arith; passed = λ j h g. does_fit j (l j (omega arith) (omega arith)); named = λ h. absurd (omega arith) }
@@ -99,8 +127,8 @@ module _ (text : IdentityPlace → List ℕ) (p rows : List ℕ) where
           },
         )
 
-    pub scan : (o : Option ℕ) → option_map (λ x. x) o ≡ reduce min (rows_from misfit row 0 (length rows)) → FoundBelow (records_of p) (Scanned text p rows (length rows)) o
-    scan o e = scanned o (rw (← option_map_id o, e) (least misfit row (length rows) 0))
+    pub scan : (o : Option ℕ) → o ≡ fold lesser None (range_with_len 0 (length rows)) → FoundBelow (records_of p) (Scanned text p rows (length rows)) o
+    scan o e = scanned o (rw (e, lesser_least (length rows) 0) (least misfit row (length rows) 0))
 
 -- of no rows
 pub scan_none : (text : IdentityPlace → List ℕ) (p : List ℕ) → Scanned text p [] 0 (records_of p)

@@ -101,15 +101,16 @@ impl<'a> Federate<'a> {
         are_halves(own, next) && self.parted(rows, k, k + 2)
     }
 
-    // The smallest row that does not fit where it stands.
+    // The smallest row that does not fit where it stands: a row that is not below the least so far is passed over, whether it fits or not.
     fn least_misfit(self, rows: &[u32]) -> Option<u32>
         requires { All (λ row. row < records_of self.pack.bytes.now) rows.now }
         ensures { let p = self.entry.pack.bytes.now in FoundBelow (records_of p) (Scanned (text_of self.entry) p rows.now (length rows.now)) result }
     {
-        (0..rows.len())
-            .filter(|k| !self.fits(rows, *k))
-            .map(|k| rows[k])
-            .min()
+        (0..rows.len()).fold(None, |least: Option<u32>, k| match least {
+            Some(found) if found <= rows[k] => least,
+            _ if self.fits(rows, k) => least,
+            _ => Some(rows[k]),
+        })
     }
 
     // The first record at fault, with room for ROOM routes, in a frame of its own: packs with fewer do not pay for it.

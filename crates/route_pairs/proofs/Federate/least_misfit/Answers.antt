@@ -1,19 +1,16 @@
--- The chain's least row is the scan's.
+-- The fold's least row is the scan's.
 use Rattle.std.proofs.Common.{List, ℕ, length, rules, arith}
 use borrow.Author.Tests.{tests}
-use Rattle.std.proofs.lemmas.Iterator.{YieldsList-from_range, YieldsList-from_map}
-use Rattle.std.proofs.lemmas.Iterator.Consumers.{YieldsList-at, YieldsList-from_filter, min_from_yields_List}
+use Rattle.std.specs.Prelude.{None}
+use Rattle.std.proofs.lemmas.Iterator.{YieldsList-from_range}
+use Rattle.std.proofs.lemmas.Iterator.Consumers.{fold_from_yields_List}
 use Rattle.route_pairs.specs.RouteOrder.{text_of}
-use Rattle.route_pairs.proofs.Scan.{misfit, row, scan}
+use Rattle.route_pairs.proofs.Scan.{lesser, scan}
 use Rattle.route_pairs.proofs.Federate.least_misfit.Goals as goal
 
 pub returns : goal.returns
 returns c =
     let p : List ℕ = c.args.self.pack.bytes.now in
     let rows : List ℕ = c.args.rows.now in
-    scan (text_of c.args.self) p rows c.requires c.min.result
-    (min_from_yields_List c.map.result _ c.min.ensures.ran
-    (YieldsList-from_map _ (row (text_of c.args.self) p rows)
-    (YieldsList-at c.map.ensures.source
-    (YieldsList-from_filter _ (misfit (text_of c.args.self) p rows) (YieldsList-from_range 0 (length rows) (length rows) (cc) (omega arith)) c.filter.ensures.closure (λ x b q k. search (rules, tests))))
-    c.map.ensures.closure (λ x r q k. search rules)))
+    scan (text_of c.args.self) p rows c.requires c.fold.result
+    (fold_from_yields_List _ (lesser (text_of c.args.self) p rows) None c.fold.result c.fold.ensures.ran (YieldsList-from_range 0 (length rows) (length rows) (cc) (omega arith)) (λ a x b q k. search (rules, tests)))
