@@ -1,5 +1,5 @@
 -- What reading three files comes to. Assumes nothing.
-use Rattle.std.specs.Prelude.{ℕ, List, Bool, true, false, ◌||◌, cond, nat_le, Option, Some, None, Result, Ok, Err, codes, take, if◌then◌else◌}
+use Rattle.std.specs.Prelude.{ℕ, List, Bool, true, false, ◌||◌, cond, nat_lt, nat_le, Option, Some, None, Result, Ok, Err, codes, take, if◌then◌else◌}
 use Rattle.line_check.specs.declared.image.File.{File}
 use Rattle.line_check.specs.declared.image.LineImage.{LineImage}
 use Rattle.line_check.specs.declared.files.FileError.{FileError}
@@ -10,12 +10,17 @@ error_text NoFile = codes "no file"
 error_text TooLong = codes "too long"
 
 -- a file of which so many bytes were read into a room of k bytes: too long where the room is full, since more may be there; None stands for one that cannot be read
+abbrev pub length_within : Option ℕ → ℕ → Result ℕ FileError
+length_within (Some n) k = if nat_le k n then Err TooLong else Ok n
+length_within None k = Err NoFile
+
+-- the same of a file of a line image: too long where there are more than 65,536 bytes, or where the room is full and more may be there
 abbrev pub file_of : Option ℕ → ℕ → Result ℕ FileError
-file_of (Some n) k = if nat_le k n then Err TooLong else Ok n
+file_of (Some n) k = if nat_lt 65536 n || nat_le k n then Err TooLong else Ok n
 file_of None k = Err NoFile
 
 abbrev pub file_bytes : File → List ℕ
-file_bytes file = take file.len file.room
+file_bytes file = take file.len file.room.now
 
 abbrev pub is_missing : {A : Type 0} → Result A FileError → Bool
 is_missing (Ok file) = false

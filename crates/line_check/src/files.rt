@@ -1,8 +1,8 @@
 // Reading the files of a line image, and what three such reads come to.
 ghost use Rattle.std.specs.Prelude.{◌≡◌, ◌<◌, ◌≤◌, length, Some, IfOk, IfSome};
-ghost use Rattle.line_check.specs.Files.{error_text, file_of, together};
+ghost use Rattle.line_check.specs.Files.{error_text, length_within, file_of, together};
 
-use crate::image::{File, LineImage, ROOM};
+use crate::image::{File, LIMIT, LineImage};
 use FileError::{NoFile, TooLong};
 use std::error::Error;
 use std::io::Read;
@@ -62,8 +62,8 @@ fn read_room<R: rt::Files>(rt: &R, path: &[u8], room: &mut [u8]) -> Option<usize
 }
 
 // How long a file is of which so many bytes stand in a room of this length: one that fills it may go on.
-fn file_of(read: Option<usize>, room: usize) -> Result<usize, FileError>
-    ensures value { result ≡ file_of read room }
+fn length_within(read: Option<usize>, room: usize) -> Result<usize, FileError>
+    ensures value { result ≡ length_within read room }
     ensures within { IfOk result (λ n. n < room) }
 {
     match read {
@@ -78,23 +78,43 @@ pub fn read_within<R: rt::Files>(rt: &R, path: &[u8], room: &mut [u8]) -> Result
     ensures { IfOk result (λ n. n < length room.new) }
 {
     let read = read_room(rt, path, room);
-    file_of(read, room.len())
+    length_within(read, room.len())
 }
 
-// Reads the file of that name, which may have 65,536 bytes.
-pub fn read_file<R: rt::Files>(rt: &R, path: &[u8]) -> Result<File, FileError> {
-    let mut room = [0u8; ROOM];
-    let len = read_within(rt, path, &mut room)?;
+// The same of a file of a line image, which has no more bytes than the limit either.
+fn file_of(read: Option<usize>, room: usize) -> Result<usize, FileError>
+    ensures value { result ≡ file_of read room }
+    ensures fits { IfOk result (λ n. n ≤ 65536) }
+    ensures within { IfOk result (λ n. n < room) }
+{
+    match read {
+        Some(n) if LIMIT < n || room <= n => Err(TooLong),
+        Some(n) => Ok(n),
+        None => Err(NoFile),
+    }
+}
+
+// Reads the file of that name into the room, which has a byte more than the longest file that fits.
+pub fn read_file<'a, R: rt::Files>(
+    rt: &R,
+    path: &[u8],
+    room: &'a mut [u8],
+) -> Result<File<'a>, FileError>
+    ensures within { IfOk result (λ file. file.len ≤ length room.old) }
+    ensures place { IfOk result (λ file. file.room.ref_ptr ≡ room.entry.ref_ptr) }
+{
+    let read = read_room(rt, path, room);
+    let len = file_of(read, room.len())?;
     Ok(File { room, len })
 }
 
 // A file that is missing decides before one that is too long. Three results, since each file is read on its own.
-pub fn together(
-    pack: Result<File, FileError>,
-    batch: Result<File, FileError>,
-    house: Result<File, FileError>,
-) -> Result<LineImage, FileError>
-    ensures { result ≡ together pack batch house }
+pub fn together<'a>(
+    pack: Result<File<'a>, FileError>,
+    batch: Result<File<'a>, FileError>,
+    house: Result<File<'a>, FileError>,
+) -> Result<LineImage<'a>, FileError>
+    ensures { result ≡ together pack.entry batch.entry house.entry }
 {
     match (pack, batch, house) {
         (Ok(pack), Ok(batch), Ok(house)) => Ok(LineImage { pack, batch, house }),

@@ -1,5 +1,5 @@
-// A line image: what was read of its three files.
-ghost use Rattle.std.specs.Prelude.{◌≡◌, ◌≤◌, take};
+// A line image: what was read of its three files, in rooms that are lent.
+ghost use Rattle.std.specs.Prelude.{◌≡◌, ◌≤◌, length, take};
 
 // The most bytes that a file of a line image may have.
 pub const LIMIT: usize = 65_536;
@@ -9,24 +9,25 @@ pub const ROOM: usize = LIMIT + 1;
 
 // A file that was read: so many bytes of it stand at the start of the room, and the file ends there.
 // No `ArrayVec`: reading fills a slice that is there.
-#[derive(Drop)]
-pub struct File {
-    pub room: [u8; ROOM],
+#[derive(Clone, Copy)]
+pub struct File<'a> {
+    pub room: &'a [u8],
     pub len: usize,
     ghost fits: { len ≤ 65536 },
+    ghost inside: { len ≤ length room.now },
 }
 
-impl File {
-    pub fn bytes(&self) -> &[u8]
-        ensures { result.now ≡ take self.now.len self.now.room }
+impl<'a> File<'a> {
+    pub fn bytes(self) -> &'a [u8]
+        ensures { result.now ≡ take self.entry.len self.entry.room.now }
     {
         &self.room[..self.len]
     }
 }
 
-#[derive(Drop)]
-pub struct LineImage {
-    pub pack: File,
-    pub batch: File,
-    pub house: File,
+#[derive(Clone, Copy)]
+pub struct LineImage<'a> {
+    pub pack: File<'a>,
+    pub batch: File<'a>,
+    pub house: File<'a>,
 }

@@ -7,6 +7,7 @@ mod line;
 
 pub use files::{FileError, read_within};
 use files::{read_file, together};
+use image::ROOM;
 pub use line::Profile;
 use line::file_line;
 use std::io::Write;
@@ -20,9 +21,12 @@ pub fn check_files<R: rt::Files + Print>(
     batch_name: &[u8],
     house_name: &[u8],
 ) -> io::Result<()> {
-    let pack = read_file(rt, pack_name);
-    let batch = read_file(rt, batch_name);
-    let house = read_file(rt, house_name);
+    let mut pack_room = [0u8; ROOM];
+    let mut batch_room = [0u8; ROOM];
+    let mut house_room = [0u8; ROOM];
+    let pack = read_file(rt, pack_name, &mut pack_room);
+    let batch = read_file(rt, batch_name, &mut batch_room);
+    let house = read_file(rt, house_name, &mut house_room);
     let line = file_line(profile, together(pack, batch, house));
     io::writer(rt).write_all(line.as_bytes())
 }

@@ -82,7 +82,7 @@ fn profile_answer(
 
 // The line for what was read.
 pub fn file_line(profile: Profile, files: Result<LineImage, FileError>) -> Line
-    ensures { result.bytes ≡ file_line profile files }
+    ensures { result.bytes ≡ file_line profile files.entry }
 {
     match files {
         Ok(image) => answer_line(profile_answer(
