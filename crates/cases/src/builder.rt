@@ -1,7 +1,6 @@
 // Writing a record: the table number, the bits and the kind, then the fields one by one, and zeros after them.
 ghost use Rattle.std.specs.Prelude.{◌≡◌, [], ◌∷◌, ◌+◌, ◌≤◌, ◌++◌};
 ghost use Rattle.arrayvec.specs.ArrayVec.{array_vec_len};
-ghost use Rattle.cases.specs.Fields as spec;
 ghost use Rattle.cases.specs.Packs.{W, D, padded};
 ghost use Rattle.cases.specs.Records as fields;
 
@@ -9,19 +8,6 @@ use crate::records::RecordBytes;
 use arrayvec::ArrayVec;
 use identity::IdentityPlace;
 use range::{IndexSpan, SliceRange};
-
-// Two bits of a byte, the lowest first, and three: std makes no byte of them.
-pub fn bits(low: bool, high: bool) -> u8
-    ensures { result ≡ spec.bits low high }
-{
-    u8::from(low) + 2 * u8::from(high)
-}
-
-pub fn three_bits(low: bool, middle: bool, high: bool) -> u8
-    ensures { result ≡ spec.three_bits low middle high }
-{
-    bits(low, middle) + 4 * u8::from(high)
-}
 
 // The bytes of a record that are written so far: room for one record, since nothing here asks for memory. Each number asks for room of its own width.
 #[derive(Drop)]

@@ -2,4 +2,5 @@
 #![tactic(auto)]
 
 mod builder;
+pub mod fields;
 pub mod records;

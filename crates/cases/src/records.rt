@@ -1,10 +1,11 @@
 // The record of a row: the table number, the bits and the kind, the fields, and zeros after them; and packs of records.
-ghost use Rattle.std.specs.Prelude.{◌≡◌, ◌+◌, ◌*◌, ◌≤◌, ◌↔◌, ◌++◌, ℕ, List, length, flat_map, IsOk, OnOk, OnErr};
+ghost use Rattle.std.specs.Prelude.{◌≡◌, ◌+◌, ◌*◌, ◌≤◌, ◌↔◌, ◌++◌, ℕ, List, length, take, drop, flat_map, IsOk, OnOk, OnErr};
 ghost use Rattle.arrayvec.specs.ArrayVec.{array_vec_len};
 ghost use Rattle.cases.specs.Fields.{timing_kind, has_period, timing_nanos};
 ghost use Rattle.cases.specs.Records.{federate_record, enclave_record, reactor_record, action_record, port_record, reaction_record, mode_record, scope_record, trigger_record, route_record, binding_record, deadline_record};
 
-use crate::builder::{RecordBuilder, bits, three_bits};
+use crate::builder::RecordBuilder;
+use crate::fields::{bits, three_bits};
 use arrayvec::{ArrayVec, CapacityError};
 use schema::entries::ReactionTrigger;
 use schema::index::{ActionTiming, BankInfoImage, RouteDirection, TimingDomain};
@@ -220,11 +221,19 @@ fn timing_fields(timing: ActionTiming) -> (u8, bool, u64)
     }
 }
 
+// Puts a record into a pack as record n. All other bytes are as before.
+pub fn put(pack: &mut [u8], n: usize, bytes: RecordBytes)
+    requires { n * 64 + 64 ≤ length pack.old }
+    ensures { pack.new ≡ take (n * 64) pack.old ++ (bytes ++ drop (n * 64 + 64) pack.old) }
+{
+    pack[n * 64..n * 64 + 64].copy_from_slice(&bytes);
+}
+
 // Room for a pack of 32 records.
 pub type Pack = ArrayVec<u8, 2048>;
 
 // Puts records into a pack, behind those that it has; none of them where there is no room for all.
-pub fn put(pack: &mut Pack, records: &[RecordBytes]) -> Result<(), CapacityError>
+pub fn append(pack: &mut Pack, records: &[RecordBytes]) -> Result<(), CapacityError>
     ensures fits { IsOk result ↔ (array_vec_len pack.old + length records.now * 64 ≤ 2048) }
     ensures ok { OnOk result (pack.new.items ≡ pack.old.items ++ flat_map (λ bytes. bytes) records.now) }
     ensures err { OnErr result (pack.new ≡ pack.old) }

@@ -3,7 +3,7 @@ use crate::parts::s_of;
 use crate::rows;
 use crate::show::show_change;
 use anyhow::Result;
-use cases::records::{Pack, Recorded, put};
+use cases::records::{Pack, Recorded, append};
 use schema::index::BindingKind;
 use schema::row::Stored;
 use schema::rows::{EnclaveImage, ReactorImage};
@@ -17,8 +17,8 @@ fn show(
     row: &[u8],
 ) -> Result<()> {
     let mut pack = Pack::new();
-    put(&mut pack, &[rows::federate(2, 0, 1).record()])?;
-    put(&mut pack, &s_of(enclave))?;
+    append(&mut pack, &[rows::federate(2, 0, 1).record()])?;
+    append(&mut pack, &s_of(enclave))?;
     show_change(rt, name, pack.as_slice(), b"abf", number, row)
 }
 

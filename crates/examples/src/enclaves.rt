@@ -3,7 +3,7 @@ use crate::parts::{one_half, s, s_of, two_deadlines, two_halves, two_scopes, unc
 use crate::rows;
 use crate::show::{show_enclave, show_enclave_bytes};
 use anyhow::Result;
-use cases::records::{Pack, Recorded, put};
+use cases::records::{Pack, Recorded, append};
 use schema::entries::ReactionTrigger;
 use schema::index::{BindingKind, RouteDirection};
 use schema::row::Stored;
@@ -142,7 +142,7 @@ fn both_halves(
 // The first bytes of S.
 fn cut(rt: &HostRuntime, name: &[u8], len: usize) -> Result<()> {
     let mut pack = Pack::new();
-    put(&mut pack, &s_of(rows::enclave_s()))?;
+    append(&mut pack, &s_of(rows::enclave_s()))?;
     pack.truncate(len);
     show_enclave_bytes(rt, name, pack.as_slice(), b"ab")
 }

@@ -2,7 +2,7 @@
 use crate::rows;
 use crate::show::{show_enclave_bytes, show_name};
 use anyhow::Result;
-use cases::records::{Pack, Recorded, put};
+use cases::records::{Pack, Recorded, append};
 use schema::row::Stored;
 use schema::rows::{ReactorImage, ScopeImage};
 use std::io;
@@ -73,14 +73,14 @@ fn scope(byte: u8) -> ScopeImage {
 // S with the scopes of a table.
 fn show_in_s(rt: &HostRuntime, table: &[u8]) -> Result<()> {
     let mut pack = Pack::new();
-    put(
+    append(
         &mut pack,
         &[rows::enclave_s().record(), ReactorImage::empty().record()],
     )?;
     for byte in table {
-        put(&mut pack, &[scope(*byte).record()])?;
+        append(&mut pack, &[scope(*byte).record()])?;
     }
-    put(&mut pack, &[rows::binding_s().record()])?;
+    append(&mut pack, &[rows::binding_s().record()])?;
     show_table(rt, table)?;
     show_enclave_bytes(rt, b" in S", pack.as_slice(), b"ab")
 }

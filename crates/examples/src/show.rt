@@ -1,7 +1,7 @@
 // A line for each case: its name, and the answer of the check for its pack. The runtime goes beside a name, as it goes to all that prints.
 use answers::Refusal;
 use anyhow::Result;
-use cases::records::{Pack, RecordBytes, Recorded, put};
+use cases::records::{Pack, RecordBytes, Recorded, append};
 use change::{change_record, preview_record};
 use enclave::check::check_enclave;
 use federate::FederateAccepted;
@@ -90,9 +90,9 @@ pub fn show_reached(
 // The pack of a line: its own record, and the records of each station.
 fn line_pack(federate: FederateImage, stations: &[&[RecordBytes]]) -> Result<Pack> {
     let mut pack = Pack::new();
-    put(&mut pack, &[federate.record()])?;
+    append(&mut pack, &[federate.record()])?;
     for station in stations {
-        put(&mut pack, station)?;
+        append(&mut pack, station)?;
     }
     Ok(pack)
 }
