@@ -1,5 +1,6 @@
 // Reading a corpus, case by case. Its numbers go high byte first.
-ghost use Rattle.std.specs.Prelude.{◌≤◌, length, IfOk};
+ghost use Rattle.std.specs.Prelude.{◌≡◌, ◌≤◌, length, IfOk};
+ghost use Rattle.replay.specs.Within.{Within};
 
 use std::io;
 use std::io::{BufRead, ErrorKind, Read};
@@ -122,11 +123,10 @@ pub fn pass_over_parts<R: Read>(input: &mut R) -> Result<(), ReadError> {
 }
 
 // Takes `len` bytes, and lends those that are kept.
-pub fn take<'a, R: Read>(
-    input: &mut R,
-    room: &'a mut [u8],
-    len: u32,
-) -> Result<&'a [u8], ReadError> {
+pub fn take<'a, R: Read>(input: &mut R, room: &'a mut [u8], len: u32) -> Result<&'a [u8], ReadError>
+    ensures within { IfOk result (λ s. length s.now ≤ length room.old) }
+    ensures place { IfOk result (λ s. s.ref_ptr ≡ room.entry.ref_ptr) }
+{
     let kept = keep(input, room, len)?;
     Ok(&room[..kept])
 }
@@ -159,7 +159,9 @@ pub fn read_parts<'a, R: Read>(
     kind: u8,
     input: &mut R,
     room: &'a mut Room,
-) -> Result<Case<'a>, ReadError> {
+) -> Result<Case<'a>, ReadError>
+    ensures { IfOk result (λ c. Within c (length room.old.pack.now) (length room.old.batch.now) (length room.old.house.now)) }
+{
     let pack_len = read_u32(input)?;
     let batch_len = read_u32(input)?;
     let house_len = read_u32(input)?;
