@@ -8,6 +8,7 @@ use schema::lent::TABLES;
 pub type Limits = [[u8; 4]; 16];
 
 // Where the fields end, how many identities there are, and the limits for each value of bits 0 and 1 of byte 1, which say what fields there are.
+#[derive(Clone, Copy)]
 pub struct Shape {
     pub used: u8,
     pub identities: u8,
