@@ -8,7 +8,7 @@ ghost use Rattle.packing.specs.Packing.{pack_fits, row_after, first_table, table
 use crate::PackKind;
 use crate::clean::{clean, past_clean};
 use crate::shape::shape_of;
-use crate::walker::RecordWalker;
+use crate::walker::walker_at;
 use answers::Refusal;
 use identity::IdentityPlace;
 use identity::scan::is_utf8;
@@ -153,7 +153,7 @@ fn check_records(kind: PackKind, pack: Pack, texts: Texts) -> Result<(), Refusal
     ensures { let p = pack.entry.bytes.now in let t = texts.entry
         in result ≡ first (run (record_checks kind p t.batch.now t.house.now) 0 (length p / 64)) }
 {
-    let mut walker = RecordWalker { pack, place: 0 };
+    let mut walker = walker_at(pack.bytes, 0);
     while let Some(item) = walker.next() {
         let table = item.table();
         Named { item, texts }.check(kind)?;

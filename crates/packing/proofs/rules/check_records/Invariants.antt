@@ -9,7 +9,7 @@ invariant-loop-item l =
     let p = l.pack.bytes.now in
     let n = length p / 64 in
     record {
-      same_pack : l.walker.pack ≡ l.pack;
+      same_pack : l.walker.pack ≡ l.pack.bytes;
       inside : l.walker.place ≤ n;
       left : Remaining (record_checks l.kind p l.texts.batch.now l.texts.house.now) l.walker.place n;
     }
