@@ -8,7 +8,7 @@ use Rattle.schema.specs.Layout.{Layout, plain, layouts}
 use Rattle.schema.specs.Bytes.{byte_of, bit_of}
 use Rattle.packing.specs.Shape.{layout_of, used, governed_offset, governed_bytes, absent_at, unused_at, limit, limits, shape_of}
 use Rattle.packing.specs.Limits.{at_most, within}
-use Rattle.packing.specs.Clean.{zeros, head_clean, tail_clean, absent_clean, clean_by}
+use Rattle.packing.specs.Clean.{zeros, head_clean, tail_clean, absent_clean, fields_clean, clean_by}
 use Rattle.packing.proofs.Tables.{every, every-at}
 
 -- of a byte, 255 limits none
@@ -77,11 +77,11 @@ low l = leb l.bits 254 && leb l.kinds 254
 inside : Layout → Bool
 inside l = leb 4 (used l) && leb (used l) 64
 
--- the fields that bit k governs, if any, are from byte 4 on and inside
+-- the fields that bit k governs, if any, are from byte 4 on and among the fields
 governed : ℕ → Layout → Bool
 governed k l =
     let o = governed_offset k 4 l.fields in
-    leb (o + governed_bytes k l.fields) 64 && (leb 4 o || eqb (governed_bytes k l.fields) 0)
+    leb (o + governed_bytes k l.fields) (used l) && (leb 4 o || eqb (governed_bytes k l.fields) 0)
 
 tidy : Layout → Bool
 tidy l = (low l && inside l) && (governed 0 l && governed 1 l)
@@ -144,25 +144,31 @@ module _ (l : Layout) (good : tidy l ≡ true) (p : List ℕ) (n b : ℕ) (own :
   same-bit-1 : bit_of b 1 ≡ bit_of (byte_of p n 1) 1
   same-bit-1 = rw own (ap (λ r. eqb r 1) (low-bit-1 (byte_of p n 1)))
 
-  -- where each byte is at most its limit
-  module _ (w : within p (n * 64) (flat_map (λ x. x) (limits l b)) 64 ≡ true) where
-    most : (j m : ℕ) → j < 64 → limit l b j ≡ m → m ≤ 254 → leb (byte_of p n j) m ≡ true
-    most j m h e s =
-        let a = within-at p (flat_map (λ x. x) (limits l b)) (n * 64) 64 j w h in
-        let c : get_or (flat_map (λ x. x) (limits l b)) j 0 ≡ m = limit-at l b j h ∙ e in
+  -- where each byte before byte e, all fields' among them, is at most its limit
+  module _ (e : ℕ) (few : e ≤ 64) (fields : used l ≤ e) (w : within p (n * 64) (flat_map (λ x. x) (limits l b)) e ≡ true) where
+    head-there : 4 ≤ e
+    head-there = let f = from-4 l good in let g = fields in omega arith
+
+    most : (j m : ℕ) → j < e → limit l b j ≡ m → m ≤ 254 → leb (byte_of p n j) m ≡ true
+    most j m h q s =
+        let a = within-at p (flat_map (λ x. x) (limits l b)) (n * 64) e j w h in
+        let f = few in
+        let c : get_or (flat_map (λ x. x) (limits l b)) j 0 ≡ m = limit-at l b j (omega arith) ∙ q in
         sym (at-most-low m (byte_of p n j) (omega arith)) ∙ rw c at a
 
-    no-byte : (j : ℕ) → j < 64 → limit l b j ≡ 0 → byte_of p n j ≡ 0
-    no-byte j h e = let a = leb-true _ _ (most j 0 h e (omega arith)) in omega arith
+    no-byte : (j : ℕ) → j < e → limit l b j ≡ 0 → byte_of p n j ≡ 0
+    no-byte j h q = let a = leb-true _ _ (most j 0 h q (omega arith)) in omega arith
 
-    not-used : (j : ℕ) → 4 ≤ j → j < 64 → unused_at l b j ≡ true → byte_of p n j ≡ 0
+    not-used : (j : ℕ) → 4 ≤ j → j < e → unused_at l b j ≡ true → byte_of p n j ≡ 0
     not-used j g h u = no-byte j h (limit-from-4 l b j g ∙ rw u refl)
 
     head-is : head_clean l p n ≡ true
-    head-is = rw (most 1 l.bits (omega arith) refl (low-bits l good), most 2 l.kinds (omega arith) refl (low-kinds l good), no-byte 3 (omega arith) refl) refl
+    head-is =
+        let f = head-there in
+        rw (most 1 l.bits (omega arith) refl (low-bits l good), most 2 l.kinds (omega arith) refl (low-kinds l good), no-byte 3 (omega arith) refl) refl
 
-    tail-is : tail_clean l p n ≡ true
-    tail-is =
+    tail-is : e ≡ 64 → tail_clean l p n ≡ true
+    tail-is whole =
         zeros-all p (n * 64 + used l) (64 - used l)
         (λ i h.
         let f = (from-4 l good) in
@@ -181,7 +187,8 @@ module _ (l : Layout) (good : tidy l ≡ true) (p : List ℕ) (n b : ℕ) (own :
         (λ i h.
         let o = governed_offset k 4 l.fields in
         let q = both _ _ g in
-        let r : o + governed_bytes k l.fields ≤ 64 = leb-true _ _ q.0 in
+        let r : o + governed_bytes k l.fields ≤ used l = leb-true _ _ q.0 in
+        let m = fields in
         let a : n * 64 + o + i ≡ n * 64 + (o + i) = omega arith in
         let four : 4 ≤ o = from-some k q.1 (omega arith) in
         rw a (not-used (o + i) (omega arith) (omega arith) (u (o + i) (rw (s ∙ f, le-leb o (o + i) (omega arith), lt-ltb (o + i) (o + governed_bytes k l.fields) (omega arith)) refl))))))
@@ -192,39 +199,32 @@ module _ (l : Layout) (good : tidy l ≡ true) (p : List ℕ) (n b : ℕ) (own :
             (λ t. leb-true _ _ t)
             (λ f. let z = eqb-true _ 0 (rw f at e) in absurd (omega arith))
 
-    clean-is : clean_by l p n ≡ true
-    clean-is =
-        rw (
-          head-is,
-          tail-is,
-          absent-is 0 (governed-0 l good) same-bit-0 (λ j e. rw (e, or-true (leb (used l) j)) refl),
-          absent-is 1 (governed-1 l good) same-bit-1 (λ j e. rw (e, or-true (absent_at 0 l b j), or-true (leb (used l) j)) refl),
-        )
-        refl
+    absent-is-0 : absent_clean 0 l p n ≡ true
+    absent-is-0 = absent-is 0 (governed-0 l good) same-bit-0 (λ j a. rw (a, or-true (leb (used l) j)) refl)
 
-  -- where the record is clean
-  module _ (c : clean_by l p n ≡ true) where
+    absent-is-1 : absent_clean 1 l p n ≡ true
+    absent-is-1 = absent-is 1 (governed-1 l good) same-bit-1 (λ j a. rw (a, or-true (absent_at 0 l b j), or-true (leb (used l) j)) refl)
+
+    fields-are : fields_clean l p n ≡ true
+    fields-are = rw (head-is, absent-is-0, absent-is-1) refl
+
+    clean-is : e ≡ 64 → clean_by l p n ≡ true
+    clean-is whole = rw (head-is, tail-is whole, absent-is-0, absent-is-1) refl
+
+  -- where the fields are clean, and the bytes past them that are before byte e are zero
+  module _ (c : fields_clean l p n ≡ true) (e : ℕ) (few : e ≤ 64) (past : (j : ℕ) → leb (used l) j ≡ true → j < e → byte_of p n j ≡ 0) where
     head-part : head_clean l p n ≡ true
-    head-part = (both _ _ c).0
-
-    tail-part : tail_clean l p n ≡ true
-    tail-part = (both _ _ (both _ _ c).1).0
+    head-part = (both (head_clean l p n) _ c).0
 
     absent-0 : absent_clean 0 l p n ≡ true
-    absent-0 = (both (absent_clean 0 l p n) (absent_clean 1 l p n) (both (tail_clean l p n) _ (both (head_clean l p n) _ c).1).1).0
+    absent-0 = (both (absent_clean 0 l p n) (absent_clean 1 l p n) (both (head_clean l p n) _ c).1).0
 
     absent-1 : absent_clean 1 l p n ≡ true
-    absent-1 = (both (absent_clean 0 l p n) (absent_clean 1 l p n) (both (tail_clean l p n) _ (both (head_clean l p n) _ c).1).1).1
-
-    in-tail : (j : ℕ) → j < 64 → leb (used l) j ≡ true → byte_of p n j ≡ 0
-    in-tail j h t =
-        let g = leb-true _ _ t in
-        let e : n * 64 + used l + (j - used l) ≡ n * 64 + j = omega arith in
-        rw e at (zeros-at p (n * 64 + used l) (64 - used l) (j - used l) tail-part (omega arith))
+    absent-1 = (both (absent_clean 0 l p n) (absent_clean 1 l p n) (both (head_clean l p n) _ c).1).1
 
     in-absent : (k j : ℕ) → bit_of b k ≡ bit_of (byte_of p n 1) k → absent_clean k l p n ≡ true → absent_at k l b j ≡ true → byte_of p n j ≡ 0
-    in-absent k j s a e =
-        let q = both (not (bit_of b k)) _ e in
+    in-absent k j s a q =
+        let q = both (not (bit_of b k)) _ q in
         let o = governed_offset k 4 l.fields in
         let r = both (leb o j) _ q.1 in
         let g = leb-true _ _ r.0 in
@@ -238,17 +238,17 @@ module _ (l : Layout) (good : tidy l ≡ true) (p : List ℕ) (n b : ℕ) (own :
         is-false true e = failed e
         is-false false e = refl
 
-    no-field : (j : ℕ) → j < 64 → unused_at l b j ≡ true → byte_of p n j ≡ 0
+    no-field : (j : ℕ) → j < e → unused_at l b j ≡ true → byte_of p n j ≡ 0
     no-field j h u =
         cases (leb (used l) j)
-        (λ t. in-tail j h t)
+        (λ t. past j t h)
         (λ f.
         let v : (absent_at 0 l b j || absent_at 1 l b j) ≡ true = rw f at u in
         cases (absent_at 0 l b j)
         (λ t. in-absent 0 j same-bit-0 absent-0 t)
         (λ g. in-absent 1 j same-bit-1 absent-1 (rw g at v)))
 
-    each : (j : ℕ) → j < 64 → at_most (limit l b j) (byte_of p n j) ≡ true
+    each : (j : ℕ) → j < e → at_most (limit l b j) (byte_of p n j) ≡ true
     each zero h = refl
     each (suc zero) h = low-at-most l.bits (byte_of p n 1) (both (leb (byte_of p n 1) l.bits) _ head-part).0
     each (suc (suc zero)) h = low-at-most l.kinds (byte_of p n 2) (both (leb (byte_of p n 2) l.kinds) _ (both (leb (byte_of p n 1) l.bits) _ head-part).1).0
@@ -258,15 +258,42 @@ module _ (l : Layout) (good : tidy l ≡ true) (p : List ℕ) (n b : ℕ) (own :
         (λ t. rw t (low-at-most 0 _ (rw (no-field (suc (suc (suc (suc j)))) h t) refl)))
         (λ f. rw f refl)
 
-    within-is : within p (n * 64) (flat_map (λ x. x) (limits l b)) 64 ≡ true
-    within-is = within-all p (flat_map (λ x. x) (limits l b)) (n * 64) 64 (λ j h. rw (limit-at l b j h) (each j h))
+    within-is : within p (n * 64) (flat_map (λ x. x) (limits l b)) e ≡ true
+    within-is =
+        let f = few in
+        within-all p (flat_map (λ x. x) (limits l b)) (n * 64) e (λ j h. rw (limit-at l b j (omega arith)) (each j h))
+
+  -- where the record is clean
+  module _ (c : clean_by l p n ≡ true) where
+    tail-part : tail_clean l p n ≡ true
+    tail-part = (both (tail_clean l p n) _ (both (head_clean l p n) _ c).1).0
+
+    fields-part : fields_clean l p n ≡ true
+    fields-part = rw ((both (head_clean l p n) _ c).0, (both (tail_clean l p n) _ (both (head_clean l p n) _ c).1).1) refl
+
+    in-tail : (j : ℕ) → leb (used l) j ≡ true → j < 64 → byte_of p n j ≡ 0
+    in-tail j t h =
+        let g = leb-true _ _ t in
+        let e : n * 64 + used l + (j - used l) ≡ n * 64 + j = omega arith in
+        rw e at (zeros-at p (n * 64 + used l) (64 - used l) (j - used l) tail-part (omega arith))
 
   one_test : within p (n * 64) (flat_map (λ x. x) (limits l b)) 64 ≡ clean_by l p n
-  one_test = same_test _ _ clean-is within-is
+  one_test = same_test _ _ (λ w. clean-is 64 (omega arith) (to-64 l good) w refl) (λ c. within-is (fields-part c) 64 (omega arith) (in-tail c))
+
+  fields_test : within p (n * 64) (flat_map (λ x. x) (limits l b)) (used l) ≡ fields_clean l p n
+  fields_test =
+      let u = to-64 l good in
+      same_test _ _
+      (λ w. fields-are (used l) u (omega arith) w)
+      (λ c. within-is c (used l) u (λ j t h. let g = leb-true (used l) j t in absurd (omega arith)))
 
 -- the limits by bits 0 and 1 of a record's byte 1, of its table's shape
 pub within-limits : (p : List ℕ) (n t b : ℕ) → b ≡ byte_of p n 1 % 4 → within p (n * 64) (flat_map (λ x. x) (limits (layout_of t) b)) 64 ≡ clean_by (layout_of t) p n
 within-limits p n t b e = one_test (layout_of t) (tidy-at t) p n b e
+
+-- and before the end of the fields, of any table's shape
+pub fields-limits : (p : List ℕ) (n t b : ℕ) → b ≡ byte_of p n 1 % 4 → within p (n * 64) (flat_map (λ x. x) (limits (layout_of t) b)) (used (layout_of t)) ≡ fields_clean (layout_of t) p n
+fields-limits p n t b e = fields_test (layout_of t) (tidy-at t) p n b e
 
 pub limits-of : (t b : ℕ) → b < 4 → get_or (shape_of t).limits b [] ≡ limits (layout_of t) b
 limits-of t b h = get_or-map-range_with_len (limits (layout_of t)) 0 4 b b [] h (omega arith)

@@ -32,6 +32,10 @@ timing_clean p n =
 abbrev pub effect_clean : List ℕ → ℕ → Bool
 effect_clean p n = bit_of (byte_of p n 1) 1 || eqb (byte_of p n 2) 0
 
+-- bytes 1 to 3 of record n and the fields that bits govern are as layout l has them
+abbrev pub fields_clean : Layout → List ℕ → ℕ → Bool
+fields_clean l p n = head_clean l p n && (absent_clean 0 l p n && absent_clean 1 l p n)
+
 -- what document 01 says of tables 3 and 5 beside their fields
 abbrev pub kind_clean : ℕ → List ℕ → ℕ → Bool
 kind_clean t p n = cond (eqb t 3) (timing_clean p n) (cond (eqb t 5) (effect_clean p n) true)

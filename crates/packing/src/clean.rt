@@ -1,14 +1,14 @@
 // A record without stray bytes, bits or kinds, whose absent fields are zero (refusal 4).
-ghost use Rattle.std.specs.Prelude.{◌≡◌, ◌&&◌, ◌+◌, ◌*◌, ◌-◌, ◌/◌, ◌%◌, ◌≤◌, length};
+ghost use Rattle.std.specs.Prelude.{◌≡◌, not, ◌&&◌, ◌||◌, ◌+◌, ◌*◌, ◌-◌, ◌/◌, ◌%◌, ◌<◌, ◌≤◌, length, ltb, eqb};
 ghost use Rattle.std.specs.List.{flat_map};
 ghost use Rattle.schema.specs.Bytes.{byte_of};
-ghost use Rattle.packing.specs.Clean.{zeros, timing_clean, kind_clean, clean_by, clean};
+ghost use Rattle.packing.specs.Clean.{zeros, fields_clean, kind_clean, clean_by, clean};
 ghost use Rattle.packing.specs.Runs.{CleanRun};
 ghost use Rattle.packing.specs.Shape.{layout_of};
 ghost use Rattle.packing.specs.Limits.{within};
 
 use crate::shape::{Limits, shape_of};
-use schema::record::Record;
+use schema::record::{Record, long_at};
 use schema::row::Row;
 use schema::rows::{ActionImage, ReactionImage};
 
@@ -27,20 +27,50 @@ fn within(item: Record, limits: &Limits) -> bool
 
 // Whether bytes 1 to 3 of a record, the fields that its presence bits govern and the bytes past its fields are as its table's layout has them.
 #[inline(always)]
-fn fields_clean(item: Record) -> bool
+fn layout_clean(item: Record) -> bool
     ensures { let p = item.entry.bytes.now in let n = item.entry.number in result ≡ clean_by (layout_of (byte_of p n 0)) p n }
 {
     let shape = shape_of(item.table());
     within(item, &shape.limits[usize::from(item.byte(1) % 4)])
 }
 
-// The bit and the D of an action's timing.
-#[tactic(auto, using(crate::proofs::Zeros::zeros_laws))]
-fn timing_clean(item: Record) -> bool
-    ensures { result ≡ timing_clean item.entry.bytes.now item.entry.number }
+// Whether each byte of a record before byte `end` is at most its limit.
+#[tactic(auto, using(crate::proofs::Limits::within_laws))]
+fn within_before(item: Record, limits: &Limits, end: u8) -> bool
+    requires { end ≤ 64 }
+    ensures { result ≡ within item.entry.bytes.now (item.entry.number * 64) (flat_map (λ x. x) limits.now) end }
 {
-    let (kind, period) = (item.byte(2), item.has(1));
-    (kind == 2 || !period) && (kind < 2 || period || item.long(16) == 0)
+    let limits = limits.as_flattened();
+    let mut all = true;
+    for j in 0..usize::from(end) {
+        let (byte, limit) = (item.byte(j), limits[j]);
+        all &= byte <= limit;
+    }
+    all
+}
+
+// Whether bytes 1 to 3 of record n and the fields that its presence bits govern are as the layout of `table` has them, whatever table the record is of.
+#[tactic(auto, using(crate::proofs::Limits::used_most))]
+pub fn fields_clean(p: &[u8], n: usize, table: u8) -> bool
+    requires { n < length p.now / 64 }
+    ensures { result ≡ fields_clean (layout_of table) p.now n }
+{
+    let item = Record {
+        bytes: p,
+        number: n,
+    };
+    let bits = item.byte(1);
+    let shape = shape_of(table);
+    within_before(item, &shape.limits[usize::from(bits % 4)], shape.used)
+}
+
+// The bit and the D of an action's timing, for a record from byte `start` on.
+#[tactic(auto, using(crate::proofs::Zeros::zeros_laws))]
+pub fn timing_clean(p: &[u8], start: usize, period: bool, kind: u8) -> bool
+    requires { start + 64 ≤ length p.now }
+    ensures { result ≡ ((eqb kind 2 || not period) && (ltb kind 2 || (period || zeros p.now (start + 16) 8))) }
+{
+    (kind == 2 || !period) && (kind < 2 || period || long_at(p, start + 16) == 0)
 }
 
 // What is asked of actions and reactions beside their fields. A match on the table: document 01 asks it of these two tables by number.
@@ -48,7 +78,7 @@ fn kind_clean(item: Record) -> bool
     ensures { let p = item.entry.bytes.now in let n = item.entry.number in result ≡ kind_clean (byte_of p n 0) p n }
 {
     match item.table() {
-        ActionImage::TABLE => timing_clean(item),
+        ActionImage::TABLE => timing_clean(item.bytes, item.number * 64, item.has(1), item.byte(2)),
         ReactionImage::TABLE => item.has(1) || item.byte(2) == 0,
         _ => true,
     }
@@ -60,7 +90,7 @@ fn kind_clean(item: Record) -> bool
 pub fn clean(item: Record) -> bool
     ensures { result ≡ clean item.entry.bytes.now item.entry.number }
 {
-    fields_clean(item) & kind_clean(item)
+    layout_clean(item) & kind_clean(item)
 }
 
 // The first record from n on, before `end`, that is not a clean one of `table`, or `end`: of any bytes, so that they go beside the places.
