@@ -80,8 +80,11 @@ pub fn read_u32<R: Read>(input: &mut R) -> Result<u32, ReadError> {
     Ok(u32::from_be_bytes(bytes))
 }
 
-// Takes bytes that are not kept.
+// Takes bytes that are not kept: none of most parts, for which no block is cleared.
 pub fn pass_over<R: Read>(input: &mut R, len: usize) -> Result<(), ReadError> {
+    if len == 0 {
+        return Ok(());
+    }
     let passed = io::copy(&mut input.by_ref().take(len as u64), &mut io::sink())?;
     if passed < len as u64 {
         return Err(ReadError::CutOff);
