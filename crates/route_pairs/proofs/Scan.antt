@@ -1,8 +1,9 @@
 -- The least of the rows that do not fit where they stand. Assumes nothing.
 use Rattle.std.proofs.Common.{ℕ, zero, suc, ◌+◌, ◌<◌, ◌≤◌, ◌≡◌, Bool, true, false, not, ◌||◌, cond, leb, List, [], map, length, get_or, refl, ap, arith, true≢false, sym, ◌∙◌}
 use Rattle.std.proofs.Math.Nat.{min-le_left, min-le_right, min-eq_left, min-eq_right}
+use Rattle.std.proofs.lemmas.Iterator.Adapters.{option_map_id}
 use Prim.Native.Nat.{min}
-use Rattle.std.specs.Prelude.{Option, Some, None, MatchOption, All}
+use Rattle.std.specs.Prelude.{Option, Some, None, MatchOption, All, option_map}
 use Rattle.std.specs.List.{filter, fold, reduce, range_with_len}
 use borrow.Author.Tests.{leb-true, leb-false}
 use Rattle.identity.specs.declared.IdentityPlace.{IdentityPlace}
@@ -127,8 +128,13 @@ module _ (text : IdentityPlace → List ℕ) (p rows : List ℕ) where
           },
         )
 
-    pub scan : (o : Option ℕ) → o ≡ fold lesser None (range_with_len 0 (length rows)) → FoundBelow (records_of p) (Scanned text p rows (length rows)) o
-    scan o e = scanned o (rw (e, lesser_least (length rows) 0) (least misfit row (length rows) 0))
+    -- where it is the least of a list of them
+    pub scan : (o : Option ℕ) → option_map (λ x. x) o ≡ reduce min (rows_from misfit row 0 (length rows)) → FoundBelow (records_of p) (Scanned text p rows (length rows)) o
+    scan o e = scanned o (rw (← option_map_id o, e) (least misfit row (length rows) 0))
+
+    -- where it is kept from row to row
+    pub scan_fold : (o : Option ℕ) → o ≡ fold lesser None (range_with_len 0 (length rows)) → FoundBelow (records_of p) (Scanned text p rows (length rows)) o
+    scan_fold o e = scan o (option_map_id o ∙ e ∙ lesser_least (length rows) 0)
 
 -- of no rows
 pub scan_none : (text : IdentityPlace → List ℕ) (p : List ℕ) → Scanned text p [] 0 (records_of p)
